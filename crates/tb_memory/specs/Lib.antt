@@ -1,0 +1,4 @@
+pub mod Crashes
+pub mod Laws
+pub mod Plans
+pub mod States
