@@ -1,0 +1,4 @@
+pub mod Compact
+pub mod OptionsText
+pub mod Endings
+pub mod Stems
