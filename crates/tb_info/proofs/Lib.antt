@@ -1,0 +1,5 @@
+pub mod Spelled
+pub mod Rows
+pub mod Ascending
+pub mod Again
+mod Example
