@@ -1,0 +1,4 @@
+mod Unique
+mod Sorted
+mod Cycles
+mod Steps
