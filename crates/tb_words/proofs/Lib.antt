@@ -1,0 +1,4 @@
+mod Chains
+mod Checks
+mod Digits
+mod Matches

@@ -1,0 +1,5 @@
+pub mod Answers
+pub mod Commands
+pub mod Numbers
+pub mod Readings
+pub mod Roots
