@@ -1,0 +1,5 @@
+pub mod Chunks
+pub mod Covers
+pub mod Globs
+pub mod Patterns
+pub mod Rows
