@@ -1,0 +1,13 @@
+pub mod TestLemmas
+pub mod Texts
+pub mod Runs
+pub mod OnePiece
+pub mod Exact
+pub mod Spaces
+pub mod EscapeLemmas
+pub mod NumberLemmas
+pub mod Forms
+pub mod Reading
+pub mod Templates
+pub mod Scanning
+pub mod Unique
