@@ -1,0 +1,5 @@
+mod Adding
+mod Ending
+mod Likeness
+mod Outputs
+mod Settling

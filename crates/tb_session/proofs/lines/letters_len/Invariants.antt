@@ -1,0 +1,10 @@
+use Rattle.std.proofs.Common.{◌≡◌, ◌+◌, length}
+use Rattle.std.specs.List.{prefix_len}
+use Rattle.tb_session.specs.Lines.{is_letter}
+use Rattle.tb_session.proofs.lines.letters_len.Given as goal
+
+abbrev pub invariant-loop-rest : goal.invariant-loop-rest
+invariant-loop-rest l = record { len : l.n + prefix_len is_letter l.rest ≡ prefix_len is_letter l.text; long : l.n + length l.rest ≡ length l.text }
+
+abbrev pub decreases-loop-rest : goal.decreases-loop-rest
+decreases-loop-rest l = length l.rest

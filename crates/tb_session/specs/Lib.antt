@@ -1,0 +1,14 @@
+pub mod Adding
+pub mod Blame
+pub mod Builds
+pub mod Commands
+pub mod Ends
+pub mod Generations
+pub mod Headline
+pub mod LineLike
+pub mod Lines
+pub mod Projects
+pub mod Publishes
+pub mod Ready
+pub mod Reports
+pub mod Scripts

@@ -1,0 +1,16 @@
+//! A run of the program: from words and a tree of texts to outputs, a report and a status. Its promise, the headline,
+//! is stated in `specs/Headline.antt`.
+#![tactic(auto)]
+
+mod builds;
+mod ended;
+mod lines;
+mod opening;
+mod prepares;
+mod projects;
+mod publishes;
+mod runs;
+mod words;
+
+pub use ended::Ended;
+pub use runs::{run, run_alone};
