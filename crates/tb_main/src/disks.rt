@@ -1,0 +1,105 @@
+ghost use Rattle.std.specs.Prelude.{◌≡◌, false, None, refl};
+
+use crate::changes::Changes;
+use crate::faults::Faults;
+use crate::files::{move_file, read_file, remove_file, write_file};
+use crate::listings::{Reach, list_files};
+use std::alloc::Global;
+use std::io;
+use std::rt::Files;
+use tb_outside::{Disk, Failed, Trouble};
+use tb_text::{List, Path, Text};
+
+/// The files below the folder where the program starts, to which outputs are written. It tells nothing of them.
+#[derive(Drop)]
+pub struct RealDisk<'a, R> {
+    rt: &'a R,
+    changes: Changes,
+    faults: Faults,
+}
+
+impl<'a, R> RealDisk<'a, R> {
+    pub fn new(rt: &'a R, alloc: Global) -> RealDisk<'a, R> {
+        RealDisk {
+            rt,
+            changes: Changes::none(alloc),
+            faults: Faults::none(),
+        }
+    }
+}
+
+impl<'a, R: Files> RealDisk<'a, R> {
+    fn put(&mut self, path: &str, bytes: &[u8]) -> io::Result<()>
+        ensures { self.new.faults ≡ self.old.faults }
+    {
+        self.changes.note(path)?;
+        write_file(self.rt, path, bytes)
+    }
+
+    fn shift(&mut self, from: &str, to: &str) -> io::Result<()>
+        ensures { self.new.faults ≡ self.old.faults }
+    {
+        self.changes.note(from)?;
+        self.changes.note(to)?;
+        move_file(self.rt, from, to)
+    }
+
+    fn take_away(&mut self, path: &str) -> io::Result<()>
+        ensures { self.new.faults ≡ self.old.faults }
+    {
+        self.changes.note(path)?;
+        remove_file(self.rt, path)
+    }
+}
+
+impl<'a, R: Files + AllocGlobal + Clone + Drop> Disk for RealDisk<'a, R> {
+    ghost tells = { false };
+
+    ghost tells_images = { false };
+
+    ghost reads = { λ d q. None };
+
+    ghost clock = { λ d. 0 };
+
+    ghost left = { λ d k q content. content ≡ None };
+
+    ghost count = { λ d. d.faults.count };
+
+    ghost reads_is_left = { λ d q told told_images. refl };
+
+    ghost has_image = { λ d k told within. (λ q. None, λ q. refl) };
+
+    fn faults(&self) -> u64 {
+        self.faults.count()
+    }
+
+    fn read(&mut self, alloc: Global, path: &Path) -> Result<Option<Text>, Trouble> {
+        let answer = read_file(self.rt, alloc, path.as_str(), u64::MAX);
+        self.faults.told(answer)
+    }
+
+    fn list(&mut self, alloc: Global, folder: &Path) -> Result<List<Path>, Trouble> {
+        let answer = list_files(self.rt, alloc, folder, Reach::All);
+        self.faults.told(answer)
+    }
+
+    fn write(&mut self, path: &Path, bytes: &[u8]) -> Result<(), Failed> {
+        let answer = self.put(path.as_str(), bytes);
+        self.faults.done(answer)
+    }
+
+    fn rename(&mut self, from: &Path, to: &Path) -> Result<(), Failed> {
+        let answer = self.shift(from.as_str(), to.as_str());
+        self.faults.done(answer)
+    }
+
+    fn remove(&mut self, path: &Path) -> Result<(), Failed> {
+        let answer = self.take_away(path.as_str());
+        self.faults.done(answer)
+    }
+
+    fn sync(&mut self) -> Result<(), Failed> {
+        let answer = self.changes.settle(self.rt);
+        self.faults.done(answer)
+    }
+}
