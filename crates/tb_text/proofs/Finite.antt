@@ -1,5 +1,5 @@
 -- A map of texts, as the finite map that it stands for.
-use Rattle.std.proofs.Common.{◌≡◌, ℕ, cond, List, [], ◌∷◌, refl, sym, ap, ◌∙◌}
+use Rattle.std.proofs.Common.{◌≡◌, ℕ, cond, List, [], ◌∷◌, length, refl, sym, ap, ◌∙◌}
 use Rattle.std.specs.Prelude.{Option, Some, None, Result, Ok, Err, IfOk}
 use Rattle.std.specs.Cmp.{eq_by_cmp_equiv}
 use Rattle.std.specs.Cmp.Lexicographic.{nat_list_cmp_total}
@@ -11,7 +11,7 @@ use Rattle.std.specs.List.Sorted.{IsStrictlySortedBy}
 use Rattle.std.specs.declared.cmp.Ordering.{Ordering}
 use Rattle.std.specs.declared.cmp.Ordering.TheVariants.{Less}
 use Rattle.std.specs.FinMap.Entries.{put, by_order}
-use Rattle.std.specs.FinMap.{entries, empty, keys, entries-insert, len-entries, len-empty, find, get, insert, remove, from_entries, get-from_entries, get-insert, get-remove, same_map}
+use Rattle.std.specs.FinMap.{entries, empty, keys, entries-insert, len, len-entries, len-empty, find, get, insert, remove, from_entries, get-from_entries, get-insert, get-remove, same_map}
 use Rattle.std.proofs.lemmas.List.{nil_from_length}
 use Rattle.std.proofs.lemmas.Map.Lookups.{exact_bytes}
 use Rattle.tb_text.specs.Bytes.{bytes_cmp}
@@ -52,6 +52,9 @@ entries_of (e ∷ es) sorted = entries-insert nat_list_cmp_total (from_entries e
 
 pub keys_of : (es : Entries) → IsStrictlySortedBy bytes_cmp (map (λ e. e.0) es) → keys (from_entries {R = bytes_cmp} es) ≡ map (λ e. e.0) es
 keys_of es sorted = ap (λ (l : Entries). map (λ e. e.0) l) (entries_of es sorted)
+
+pub count_of : (es : Entries) → IsStrictlySortedBy bytes_cmp (map (λ e. e.0) es) → length es ≡ len (from_entries {R = bytes_cmp} es)
+count_of es sorted = sym (len-entries (from_entries es) ∙ ap (λ (l : Entries). length l) (entries_of es sorted))
 
 pub if_both : {T E : Type 0} (r : Result T E) (P Q R : T → Type 0) → ((x : T) → P x → Q x → R x) → IfOk r P → IfOk r Q → IfOk r R
 if_both (Ok x) P Q R f p q = f x p q

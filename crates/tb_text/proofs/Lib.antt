@@ -2,6 +2,6 @@ mod Columns
 mod Finite
 pub mod Inside
 pub mod Order
-mod Rows
+mod Printed
 pub mod Segments
 mod Walks

@@ -1,5 +1,4 @@
 -- The order in which findings and diagnostics are reported. This project's own.
-use Rattle.std.specs.Prelude.{ℕ, Bool, List}
 use Rattle.std.specs.declared.cmp.Ordering.{Ordering}
 use Rattle.std.specs.Ordering.{bool_cmp, nat_cmp, on, then_cmp}
 use Rattle.tb_text.specs.Bytes.{bytes_cmp}

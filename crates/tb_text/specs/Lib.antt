@@ -1,3 +1,4 @@
+pub mod Borrows
 pub mod Bytes
 pub mod Counts
 pub mod Findings

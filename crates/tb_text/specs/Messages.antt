@@ -1,42 +1,50 @@
--- The texts of the codes, and the printed line of a diagnostic. This project's own, but for the numbers of the codes
--- that begin with TS and the form of the line, which are the TypeScript compiler's.
-use Rattle.std.specs.Prelude.{ℕ, ◌+◌, ◌==◌, ◌&&◌, if◌then◌else◌, nat_eq, nat_le, List, [], ◌∷◌, ◌++◌, codes, decimal, drop, length, min}
+-- The texts of the codes, as the table of the code has them, and the printed line of a diagnostic. This project's own,
+-- but for the numbers of the codes that begin with TS and the form of the line, which are the TypeScript compiler's.
+use Rattle.std.specs.Prelude.{ℕ, Bool, not, ◌&&◌, if◌then◌else◌, nat_eq, nat_le, List, [], ◌∷◌, ◌++◌, codes, decimal, drop, length, map, min}
 use Rattle.std.specs.List.{starts_with}
 use Rattle.tb_text.specs.Lines.{column_at, line_at}
+use Rattle.tb_text.specs.declared.codes.Place.{Place}
+use Rattle.tb_text.specs.declared.codes.Place.TheVariants.{First, Second, Number, End}
+use Rattle.tb_text.specs.declared.codes.TheConstants.{ROWS}
 use Rattle.tb_text.specs.declared.findings.Code.{Code}
 use Rattle.tb_text.specs.declared.findings.Diag.{Diag}
 
--- the text of a code that TypeScript has too, about the two arguments of a finding
-abbrev pub kept_text : ℕ → List ℕ → List ℕ → List ℕ
-kept_text number first second =
-    if number == 2300 then codes "Duplicate identifier '" ++ (first ++ codes "'.")
-    else if number == 2304 then codes "Cannot find name '" ++ (first ++ codes "'.")
-    else if number == 2305 then codes "Module '" ++ (first ++ (codes "' has no exported member '" ++ (second ++ codes "'.")))
-    else if number == 2307 then codes "Cannot find module '" ++ (first ++ codes "'.")
-    else if number == 2322 then codes "Type '" ++ (first ++ (codes "' is not assignable to type '" ++ (second ++ codes "'.")))
-    else if number == 2339 then codes "Property '" ++ (first ++ (codes "' does not exist on type '" ++ (second ++ codes "'.")))
-    else if number == 2345 then codes "Argument of type '" ++ (first ++ (codes "' is not assignable to parameter of type '" ++ (second ++ codes "'.")))
-    else if number == 2554 then codes "Expected " ++ (first ++ (codes " arguments, but got " ++ (second ++ codes ".")))
-    else if number == 6202 then codes "Project references form a cycle: " ++ (first ++ codes ".")
-    else if number == 6306 then codes "Referenced project '" ++ (first ++ codes "' must set composite.")
-    else if number == 6307 then codes "File '" ++ (first ++ (codes "' is not in the file list of project '" ++ (second ++ codes "'.")))
-    else []
+-- the words of a piece, and what stands behind them
+abbrev pub Piece : Type 0
+Piece = List ℕ × Place
 
--- the text of a code of this project's own
-abbrev pub own_text : ℕ → List ℕ → List ℕ
-own_text number first =
-    if number == 1001 then codes "This item has no reading."
-    else if number == 1002 then codes "The file is not UTF-8."
-    else if nat_le 2101 number && nat_le number 2125 then codes "Rule " ++ (decimal number ++ (codes " of section 6 to 9 is broken by '" ++ (first ++ codes "'.")))
-    else if number == 5001 then codes "Config is unreadable."
-    else if number == 5002 then codes "Config not found."
-    else if nat_le 5003 number && nat_le number 5015 then codes "Config fault " ++ (decimal number ++ (codes ": '" ++ (first ++ codes "'.")))
-    else if nat_le 9001 number && nat_le number 9003 then codes "'" ++ (first ++ codes "' needs a type annotation.")
-    else []
+-- whether the codes are this project's own, the first and the last of their numbers, and their text
+abbrev pub Row : Type 0
+Row = Bool × ℕ × ℕ × List Piece
 
--- the text of a code; one of no row of the table has an empty text
+-- the table of the code, without its borrows
+abbrev pub rows : List Row
+rows = map (λ row. (row.0, row.1, row.2, map (λ piece. (piece.0.now, piece.1)) row.3.now)) ROWS
+
+-- a row has a code
+abbrev pub covers : Row → Code → Bool
+covers row code = (if row.0 then code.own else not code.own) && nat_le row.1 code.number && nat_le code.number row.2
+
+-- the text of a code in the first row that has it
+abbrev pub pieces_in : List Row → Code → List Piece
+pieces_in [] code = []
+pieces_in (row ∷ rest) code = if covers row code then row.3 else pieces_in rest code
+
+-- what stands at a place
+abbrev pub placed : Place → ℕ → List ℕ → List ℕ → List ℕ
+placed First number first second = first
+placed Second number first second = second
+placed Number number first second = decimal number
+placed End number first second = []
+
+-- the pieces with what stands at their places
+abbrev pub filled : List Piece → ℕ → List ℕ → List ℕ → List ℕ
+filled [] number first second = []
+filled (piece ∷ rest) number first second = piece.0 ++ (placed piece.1 number first second ++ filled rest number first second)
+
+-- the text of a code, by the table; one of no row has an empty text
 abbrev pub message : Code → List ℕ → List ℕ → List ℕ
-message code first second = if code.own then own_text code.number first else kept_text code.number first second
+message code first second = filled (pieces_in rows code) code.number first second
 
 -- how a code is written
 abbrev pub code_text : Code → List ℕ

@@ -2,6 +2,7 @@
 //! statuses, counters. Every other crate stands on this one.
 #![tactic(auto)]
 
+mod codes;
 mod digests;
 mod edges;
 mod findings;

@@ -1,4 +1,4 @@
-ghost use Rattle.std.specs.Prelude.{◌≡◌, IfOk, OnOk, OnErr};
+ghost use Rattle.std.specs.Prelude.{◌≡◌, ◌==◌, IfOk, OnOk, OnErr};
 ghost use Rattle.std.specs.List.Sorted.{IsStrictlySortedBy};
 ghost use Rattle.std.specs.BTreeMap.{keys};
 ghost use Rattle.std.specs.Option.{option_copied};
@@ -36,6 +36,39 @@ impl Texts {
         Texts {
             texts: BTreeMap::new(alloc),
         }
+    }
+
+    /// Takes no memory.
+    pub fn from_map(texts: BTreeMap<Path, Text>) -> Texts
+        ensures { result ≡ map.from_entries texts.entries }
+    {
+        Texts { texts }
+    }
+
+    /// Takes no memory.
+    pub fn into_map(self) -> BTreeMap<Path, Text>
+        ensures { map.from_entries result.entries ≡ self }
+    {
+        let Texts { texts } = self;
+        texts
+    }
+
+    pub fn as_map(&self) -> &BTreeMap<Path, Text>
+        ensures { map.from_entries result.now.entries ≡ self.now }
+    {
+        &self.texts
+    }
+
+    pub fn len(&self) -> usize
+        ensures { result ≡ map.len self.now }
+    {
+        self.texts.len()
+    }
+
+    pub fn is_empty(&self) -> bool
+        ensures { result ≡ (map.len self.now == 0) }
+    {
+        self.len() == 0
     }
 
     pub fn get(&self, path: &Path) -> Option<&Text>

@@ -1,6 +1,7 @@
 ghost use Rattle.std.specs.Prelude.{◌≡◌, ◌≤◌, length, min, IfOk, string_bytes};
-ghost use Rattle.tb_text.specs.Messages.{code_text, diag_line, kept_text, message, own_text, without_mark};
+ghost use Rattle.tb_text.specs.Messages.{code_text, diag_line, message, without_mark};
 
+use crate::codes::{Place, pieces_of};
 use crate::{Code, Diag, NoMemory, Text, line_col};
 use std::alloc::{AllocError, Global};
 
@@ -61,45 +62,15 @@ fn code_text(alloc: Global, code: &Code) -> Result<String, AllocError>
 fn message(alloc: Global, code: &Code, first: &str, second: &str) -> Result<String, AllocError>
     ensures { IfOk result (λ t. string_bytes t ≡ message code.now first.now second.now) }
 {
-    if code.own {
-        own_text(alloc, code.number, first)
-    } else {
-        kept_text(alloc, code.number, first, second)
+    let mut text = String::new(alloc);
+    for (words, place) in pieces_of(code) {
+        text.push_str(*words)?;
+        match place {
+            Place::First => text.push_str(first)?,
+            Place::Second => text.push_str(second)?,
+            Place::Number => write!(text, "{}", code.number)?,
+            Place::End => {}
+        }
     }
-}
-
-fn kept_text(alloc: Global, number: u16, first: &str, second: &str) -> Result<String, AllocError>
-    ensures { IfOk result (λ t. string_bytes t ≡ kept_text number first.now second.now) }
-{
-    match number {
-        2300 => format!(in alloc; "Duplicate identifier '{first}'."),
-        2304 => format!(in alloc; "Cannot find name '{first}'."),
-        2305 => format!(in alloc; "Module '{first}' has no exported member '{second}'."),
-        2307 => format!(in alloc; "Cannot find module '{first}'."),
-        2322 => format!(in alloc; "Type '{first}' is not assignable to type '{second}'."),
-        2339 => format!(in alloc; "Property '{first}' does not exist on type '{second}'."),
-        2345 => format!(in alloc;
-            "Argument of type '{first}' is not assignable to parameter of type '{second}'."
-        ),
-        2554 => format!(in alloc; "Expected {first} arguments, but got {second}."),
-        6202 => format!(in alloc; "Project references form a cycle: {first}."),
-        6306 => format!(in alloc; "Referenced project '{first}' must set composite."),
-        6307 => format!(in alloc; "File '{first}' is not in the file list of project '{second}'."),
-        _ => Ok(String::new(alloc)),
-    }
-}
-
-fn own_text(alloc: Global, number: u16, first: &str) -> Result<String, AllocError>
-    ensures { IfOk result (λ t. string_bytes t ≡ own_text number first.now) }
-{
-    match number {
-        1001 => String::from_str(alloc, "This item has no reading."),
-        1002 => String::from_str(alloc, "The file is not UTF-8."),
-        2101..=2125 => format!(in alloc; "Rule {number} of section 6 to 9 is broken by '{first}'."),
-        5001 => String::from_str(alloc, "Config is unreadable."),
-        5002 => String::from_str(alloc, "Config not found."),
-        5003..=5015 => format!(in alloc; "Config fault {number}: '{first}'."),
-        9001..=9003 => format!(in alloc; "'{first}' needs a type annotation."),
-        _ => Ok(String::new(alloc)),
-    }
+    Ok(text)
 }

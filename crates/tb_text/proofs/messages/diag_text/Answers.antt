@@ -1,8 +1,8 @@
-use Rattle.std.proofs.Common.{◌≡◌, List, ℕ, sym, ap, ◌∙◌}
+use Rattle.std.proofs.Common.{◌≡◌, List, ℕ, ap, ◌∙◌}
 use Rattle.std.specs.Prelude.{string_bytes, Vec}
 use Rattle.std.specs.declared.alloc.Global.{Global}
 use Rattle.tb_text.specs.Messages.{message}
-use Rattle.tb_text.proofs.Rows.{line_is, printed}
+use Rattle.tb_text.proofs.Printed.{line_is, printed}
 use Rattle.tb_text.proofs.messages.diag_text.Goals as goal
 
 pub returns : goal.returns

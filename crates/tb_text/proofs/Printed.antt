@@ -1,26 +1,9 @@
--- The rows of the table of codes that stand for several numbers.
-use Rattle.std.proofs.Common.{◌≡◌, ℕ, ◌≤◌, ◌==◌, Bool, true, false, List, [], ◌∷◌, ◌++◌, refl, ap, ◌∙◌, arith}
-use Rattle.std.specs.Prelude.{codes, decimal, length, min, nat_le, ◌&&◌}
-use Rattle.std.proofs.lemmas.Bool.{le-leb, lt-leb, ne_eqb}
+-- The printed line of a diagnostic, from its parts.
+use Rattle.std.proofs.Common.{◌≡◌, ℕ, List, ◌++◌, ap, ◌∙◌}
+use Rattle.std.specs.Prelude.{codes, decimal, length, min}
 use Rattle.tb_text.specs.Lines.{column_at, line_at}
-use Rattle.tb_text.specs.Messages.{code_text, diag_line, line_in, message, own_text, without_mark}
+use Rattle.tb_text.specs.Messages.{code_text, diag_line, line_in, message, without_mark}
 use Rattle.tb_text.specs.declared.findings.Diag.{Diag}
-
-pub rule_row : (n : ℕ) (first : List ℕ) → 2101 ≤ n → n ≤ 2125 → own_text n first ≡ codes "Rule " ++ (decimal n ++ (codes " of section 6 to 9 is broken by '" ++ (first ++ codes "'.")))
-rule_row n first low high =
-    let a : (n == 1001) ≡ false = ne_eqb n 1001 (λ e. omega arith) in
-    let b : (n == 1002) ≡ false = ne_eqb n 1002 (λ e. omega arith) in
-    rw (a, b, le-leb 2101 n low, le-leb n 2125 high) refl
-
-pub annotation_row : (n : ℕ) (first : List ℕ) → 9001 ≤ n → n ≤ 9003 → own_text n first ≡ codes "'" ++ (first ++ codes "' needs a type annotation.")
-annotation_row n first low high =
-    let a : (n == 1001) ≡ false = ne_eqb n 1001 (λ e. omega arith) in
-    let b : (n == 1002) ≡ false = ne_eqb n 1002 (λ e. omega arith) in
-    let c : (n == 5001) ≡ false = ne_eqb n 5001 (λ e. omega arith) in
-    let d : (n == 5002) ≡ false = ne_eqb n 5002 (λ e. omega arith) in
-    rw (a, b, le-leb 2101 n (omega arith), lt-leb n 2125 (omega arith), c, d, le-leb 5003 n (omega arith), lt-leb n 5015 (omega arith), le-leb 9001 n low, le-leb n 9003 high) refl
-
--- ---- the printed line
 
 abbrev pub printed : List ℕ → ℕ → ℕ → List ℕ → List ℕ → List ℕ
 printed path line column code said = path ++ (codes "(" ++ (decimal line ++ (codes "," ++ (decimal column ++ (codes "): error " ++ (code ++ (codes ": " ++ said)))))))
