@@ -1,0 +1,4 @@
+pub mod Commas
+pub mod Placed
+pub mod Items
+pub mod ReadsBack

@@ -1,0 +1,4 @@
+pub mod Deep
+mod Differ
+pub mod Ends
+pub mod Unique
