@@ -8,6 +8,8 @@ mod files;
 mod gates;
 mod plans;
 mod sinks;
+#[cfg(test)]
+mod tests;
 mod trees;
 
 pub use crashes::Crash;
