@@ -10,7 +10,7 @@ use Rattle.tb_outside.specs.Causes.{Rose}
 use Rattle.tb_session.specs.Blame.{Counts, OnlyFailed, count_of}
 use Rattle.tb_session.specs.Commands.{command_of}
 use Rattle.tb_session.specs.Ends.{Ends, IsSettled, project_named}
-use Rattle.tb_session.specs.Projects.{config_path}
+use Rattle.tb_session.specs.Plans.{config_path}
 use Rattle.tb_session.specs.Publishes.{Seen, Answer, Publication, Publishes}
 
 which_or : Status → Which

@@ -1,5 +1,9 @@
 mod Adding
+mod Beside
 mod Ending
-mod Likeness
+mod OneBuild
 mod Outputs
+mod Reading
 mod Settling
+mod Writing
+mod Written

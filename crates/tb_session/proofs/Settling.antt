@@ -1,99 +1,27 @@
 -- The headline from how a run ended.
-use Rattle.std.proofs.Common.{◌≡◌, ◌≢◌, ℕ, ◌<◌, Bool, true, false, cond, List, [], ◌∷◌, ◌++◌, take, refl, sym, ap, ◌∙◌, subst, codes, arith, IsTrue, inl, inr}
+use Rattle.std.proofs.Common.{◌≡◌, ℕ, ◌<◌, Bool, true, false, cond, List, [], ◌∷◌, ◌++◌, length, take, refl, sym, ap, ◌∙◌, subst, arith, IsTrue, inl, inr}
 use Rattle.std.specs.Prelude.{Option, Some, None, Contains, slice_index_or, zero, suc}
 use Rattle.std.specs.List.{AllByRecursion}
 use Rattle.std.specs.List.Sorted.{IsStrictlyIncreasing}
-use Rattle.std.proofs.lemmas.List.{append_cancel_right, append-nil}
+use Rattle.std.proofs.lemmas.List.{append-nil}
 use Rattle.tb_text.specs.declared.statuses.Status.{Status}
 use Rattle.tb_text.specs.declared.statuses.Status.TheVariants as status
 use Rattle.tb_outside.specs.Causes.{Rose}
-use Rattle.tb_outside.specs.Disk.{Files, put_at, read_after_all}
-use Rattle.tb_outside.specs.Laws.{put_here, put_other}
-use Rattle.tb_face.specs.Digests.{sha}
-use Rattle.tb_face.specs.Outputs.{output_text, info_text}
-use Rattle.tb_session.specs.declared.lines.Line.{Line}
+use Rattle.tb_outside.specs.Disk.{Files, read_after_all}
 use Rattle.tb_session.specs.Builds.{Clean, IsClean, build_of, checks_of, builds_of}
 use Rattle.tb_session.specs.Commands.{Command, plain_build, command_of, is_build_word}
 use Rattle.tb_session.specs.Ends.{IsSettled}
 use Rattle.tb_session.specs.Generations.{Tree, opening}
 use Rattle.tb_session.specs.Headline.{Run, Headline, AreReports, IsTail, HasOutputs, NotServed, texts_of, report_of}
-use Rattle.tb_session.specs.Projects.{IsProject, HasInput, HasLine, is_stem, out_folder}
 use Rattle.tb_session.specs.Reports.{status_of}
 use Rattle.tb_session.specs.Publishes.{Answer, Publishes, Seen}
 use Rattle.tb_session.specs.Publishes as Published
 use Rattle.tb_session.specs.Ready.{IsReady}
 use Rattle.tb_session.specs.declared.publishes.Publication.{Publication}
-use Rattle.tb_session.specs.Scripts.{script}
-use Rattle.tb_outside.specs.declared.disks.DiskStep.{DiskStep}
+use Rattle.tb_session.proofs.OneBuild.{one_build, checks_all, builds_one}
+use Rattle.tb_session.proofs.Written.{outputs_read}
 use Rattle.tb_text.specs.declared.statuses.Which.{Which}
 use Rattle.tb_text.specs.declared.statuses.Which.TheVariants.{Disk, Sink}
-use Rattle.tb_session.proofs.Likeness.{is_like}
-use Rattle.tb_session.proofs.Outputs.{js_not_dts, not_info}
-
--- ---- one clean build
-
-head_or : List ℕ → List (List ℕ) → List ℕ
-head_or d [] = d
-head_or d (x ∷ xs) = x
-
-some_or : List ℕ → Option (List ℕ) → List ℕ
-some_or d None = d
-some_or d (Some x) = x
-
-same_stem : (texts : Tree) (a b : List ℕ) → HasInput texts a → HasInput texts b → a ≡ b
-unfolding head_or
-same_stem texts a b ha hb = append_cancel_right a b (codes ".ts") (ap (head_or []) (sym ha.only ∙ hb.only))
-
-same_text : (texts : Tree) (path s t : List ℕ) (k l : Line) → HasLine texts path s k → HasLine texts path t l → s ≡ t
-unfolding some_or
-same_text texts path s t k l hs ht = ap (some_or []) (sym hs.found ∙ ht.found)
-
-same_line : (text : List ℕ) (texts : Tree) (path : List ℕ) (k l : Line) → HasLine texts path text k → HasLine texts path text l → k ≡ l
-same_line text texts path k l hk hl = sym (is_like text k hk.is_line) ∙ is_like text l hl.is_line
-
-module _ (texts : Tree) (stem stem' text text' : List ℕ) (line line' : Line) (p : IsProject texts stem text line) (q : IsProject texts stem' text' line') where
-  stems : stem ≡ stem'
-  stems = same_stem texts stem stem' p.has_input q.has_input
-
-  moved_line : HasLine texts (stem ++ codes ".ts") text' line'
-  moved_line = subst (λ (s : List ℕ). HasLine texts (s ++ codes ".ts") text' line') (sym stems) q.has_line
-
-  texts_same : text ≡ text'
-  texts_same = same_text texts (stem ++ codes ".ts") text text' line line' p.has_line moved_line
-
-  lines_same : line ≡ line'
-  lines_same = same_line text texts (stem ++ codes ".ts") line line' p.has_line (subst (λ (t : List ℕ). HasLine texts (stem ++ codes ".ts") t line') (sym texts_same) moved_line)
-
-  pub one_build : build_of stem (sha text) line ≡ build_of stem' (sha text') line'
-  one_build = λ i. build_of (stems i) (sha (texts_same i)) (lines_same i)
-
--- ---- what is written is read
-
-module _ (files : Files) (p q r a b c : List ℕ) (pq : p ≢ q) (pr : p ≢ r) (qr : q ≢ r) where
-  first : Files
-  first = put_at p (Some a) files
-
-  second : Files
-  second = put_at q (Some b) (put_at p (Some a) files)
-
-  read_first : put_at r (Some c) (put_at q (Some b) (put_at p (Some a) files)) p ≡ Some a
-  read_first = put_other r (Some c) (put_at q (Some b) (put_at p (Some a) files)) p pr ∙ put_other q (Some b) (put_at p (Some a) files) p pq ∙ put_here p (Some a) files
-
-  read_second : put_at r (Some c) (put_at q (Some b) (put_at p (Some a) files)) q ≡ Some b
-  read_second = put_other r (Some c) (put_at q (Some b) (put_at p (Some a) files)) q qr ∙ put_here q (Some b) (put_at p (Some a) files)
-
-  read_third : put_at r (Some c) (put_at q (Some b) (put_at p (Some a) files)) r ≡ Some c
-  read_third = put_here r (Some c) (put_at q (Some b) (put_at p (Some a) files))
-
-  pub three_read : HasOutputs (read_after_all (script ((p, a) ∷ (q, b) ∷ (r, c) ∷ [])) files) (record { outputs = (p, a) ∷ (q, b) ∷ (r, c) ∷ []; diags = []; projects = [] })
-  three_read = (read_first, (read_second, (read_third, tt)))
-
-pub outputs_read : (files : Files) (stem version : List ℕ) (line : Line) → IsTrue (is_stem stem) → HasOutputs (read_after_all (script (build_of stem version line).outputs) files) (build_of stem version line)
-outputs_read files stem version line named =
-    three_read files (output_text out_folder stem (codes ".js")) (output_text out_folder stem (codes ".d.ts")) (info_text out_folder) _ _ _
-    (js_not_dts stem)
-    (not_info stem (codes "js") named (λ e. cc))
-    (not_info stem (codes "d.ts") named (λ e. cc))
 
 -- files that read alike have the same outputs
 pub outputs_on : (old new : Files) (outputs : List (List ℕ × List ℕ)) → ((path : List ℕ) → new path ≡ old path) → AllByRecursion (λ output. old output.0 ≡ Some output.1) outputs → AllByRecursion (λ output. new output.0 ≡ Some output.1) outputs
@@ -144,26 +72,23 @@ is_settled : (s : Status) → s ≡ status.Clean → IsSettled s
 is_settled s e = subst IsSettled (sym e) (omega arith)
 
 module _ (texts : Tree) (p : Publication) (ready : IsReady texts p) where
-  pub is_clean : IsClean texts (build_of ready.stem (sha ready.text) ready.line)
-  is_clean = record { stem = ready.stem; text = ready.text; line = ready.line; project = ready.project; build = refl }
-
-  pub same_clean : (clean : Clean) → IsClean texts clean → clean ≡ build_of ready.stem (sha ready.text) ready.line
-  same_clean clean is = is.build ∙ sym (one_build texts ready.stem is.stem ready.text is.text ready.line is.line ready.project is.project)
+  pub is_clean : IsClean texts (build_of ready.sources)
+  is_clean = record { sources = ready.sources; project = ready.project; build = refl }
 
   pub served : NotServed texts → ⊥
-  served none = none (build_of ready.stem (sha ready.text) ready.line) is_clean
+  served none = none (build_of ready.sources) is_clean
 
 module _ (alone disk_tells feed_tells sink_tells : Bool) (r : Run) (p : Publication) (ready : IsReady (opening r.tree) p) where
-  pub all_done : r.settled ≡ 0 ∷ [] → r.status ≡ status.Clean → r.checked ≡ 1 → r.built ≡ 1
-      → (IsTrue disk_tells → HasOutputs r.files (build_of ready.stem (sha ready.text) ready.line))
+  pub all_done : r.settled ≡ 0 ∷ [] → r.status ≡ status.Clean → r.checked ≡ length ready.sources → r.built ≡ 1
+      → (IsTrue disk_tells → HasOutputs r.files (build_of ready.sources))
       → (IsTrue sink_tells → r.printed_last ≡ r.printed ++ p.report) → (IsTrue feed_tells → r.turns_left ≡ r.turns)
       → Headline alone disk_tells feed_tells sink_tells (record r { command = plain_build })
   all_done settled ended checked built has printed left =
       let run : Run = record r { command = plain_build } in
-      let made : Clean = build_of ready.stem (sha ready.text) ready.line in
+      let made : Clean = build_of ready.sources in
       let report : List ℕ = report_of run 0 made in
       let is = is_clean (opening r.tree) p ready in
-      let same = same_clean (opening r.tree) p ready in
+      let same : (clean : Clean) → IsClean (opening r.tree) clean → clean ≡ made = λ clean c_is. one_build (opening r.tree) ready.sources clean ready.project c_is in
       let zero_settled : (g : ℕ) → Contains r.settled g → g ≡ 0 = λ g h. only_zero g (subst (λ (gs : List ℕ). Contains gs g) settled h) in
       record {
         diagnostics = λ heard. record {
@@ -185,14 +110,17 @@ module _ (alone disk_tells feed_tells sink_tells : Bool) (r : Run) (p : Publicat
         left = λ told done. left told;
         settles = λ done. ([], settled);
         status = λ done c c_is. ended ∙ sym (ap status_of (same c c_is));
-        sums = λ done c c_is. (checked ∙ sym (ap checks_of (same c c_is)), built ∙ sym (ap builds_of (same c c_is)));
+        sums = λ done c c_is. (
+          checked ∙ sym (checks_all ready.sources) ∙ sym (ap checks_of (same c c_is)),
+          built ∙ sym (builds_one (opening r.tree) ready.sources ready.project) ∙ sym (ap builds_of (same c c_is)),
+        );
       }
 
   pub cut_short : r.settled ≡ [] → (IsSettled r.status → ⊥) → Rose r.before.sink r.after.sink
       → (IsTrue sink_tells → (n : ℕ) × (r.printed_last ≡ r.printed ++ take n p.report)) → Headline alone disk_tells feed_tells sink_tells (record r { command = plain_build })
   cut_short settled ends rose printed =
       let run : Run = record r { command = plain_build } in
-      let made : Clean = build_of ready.stem (sha ready.text) ready.line in
+      let made : Clean = build_of ready.sources in
       let is = is_clean (opening r.tree) p ready in
       let none : (g : ℕ) → Contains r.settled g → ⊥ = λ g h. none_in g (subst (λ (gs : List ℕ). Contains gs g) settled h) in
       record {
@@ -222,17 +150,16 @@ not_outside which project le = omega (arith, le)
 
 module _ (alone disk_tells sink_tells feed_tells : Bool) (r : Run) (p : Publication) (ready : IsReady (opening r.tree) p)
     (old_files : Files) (left : r.turns_left ≡ r.turns) where
-  pub published : Publishes disk_tells sink_tells (record { steps = p.steps; report = p.report; config = p.config })
+  pub published : Publishes disk_tells sink_tells (record { steps = p.steps; report = p.report; config = p.config; checked = p.checked })
       (record { files = old_files; printed = r.printed; disk_count = r.before.disk; sink_count = r.before.sink })
       (record { files = r.files; printed = r.printed_last; disk_count = r.after.disk; sink_count = r.after.sink })
       (record { status = r.status; settled = r.settled; checked = r.checked; built = r.built })
       → Headline alone disk_tells feed_tells sink_tells (record r { command = plain_build })
   published by = elim by [
     | inl done ↦ all_done alone disk_tells feed_tells sink_tells r p ready (ap (λ (a : Answer). a.settled) done.ended) (ap (λ (a : Answer). a.status) done.ended)
-        (ap (λ (a : Answer). a.checked) done.ended) (ap (λ (a : Answer). a.built) done.ended)
-        (λ told. outputs_on (read_after_all p.steps old_files) r.files (build_of ready.stem (sha ready.text) ready.line).outputs (done.files told)
-        (subst (λ (steps : List DiskStep). HasOutputs (read_after_all steps old_files) (build_of ready.stem (sha ready.text) ready.line)) (sym ready.steps)
-        (outputs_read old_files ready.stem (sha ready.text) ready.line ready.project.has_input.named)))
+        (ap (λ (a : Answer). a.checked) done.ended ∙ ready.checked) (ap (λ (a : Answer). a.built) done.ended)
+        (λ told. outputs_on (read_after_all p.steps old_files) r.files (build_of ready.sources).outputs (done.files told)
+        (outputs_read (opening r.tree) ready.sources ready.project p.steps ready.script old_files))
         done.printed (λ told. left)
     | inr other ↦ elim other [
       | inl disk ↦ stopped alone disk_tells feed_tells sink_tells (record r { command = plain_build }) (ap (λ (a : Answer). a.settled) disk.ended) disk.printed

@@ -8,7 +8,7 @@ use Rattle.tb_text.specs.declared.statuses.Status.TheVariants as status
 use Rattle.tb_text.specs.Statuses.{code_of}
 use Rattle.tb_session.specs.Blame.{Counts, OnlyFailed, NoneFailed}
 use Rattle.tb_session.specs.Commands.{command_of}
-use Rattle.tb_session.specs.Projects.{config_path}
+use Rattle.tb_session.specs.Plans.{config_path}
 
 -- the status is that of a settled generation
 abbrev pub IsSettled : Status → Type 0

@@ -2,13 +2,13 @@ pub mod Adding
 pub mod Blame
 pub mod Builds
 pub mod Commands
+pub mod Emitted
 pub mod Ends
 pub mod Generations
 pub mod Headline
-pub mod LineLike
-pub mod Lines
-pub mod Projects
+pub mod Plans
 pub mod Publishes
 pub mod Ready
 pub mod Reports
 pub mod Scripts
+pub mod Sources

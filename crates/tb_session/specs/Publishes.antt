@@ -25,10 +25,12 @@ pub record Publication : Type 0 where
   pub steps : List DiskStep
   pub report : List ℕ
   pub config : List ℕ
+  -- how many inputs there are
+  pub checked : ℕ
 
 -- all was written, and the report was printed
 pub record Settles (disk_tells sink_tells : Bool) (p : Publication) (old new : Seen) (answer : Answer) : Type 0 where
-  pub ended : answer ≡ record { status = status.Clean; settled = 0 ∷ []; checked = 1; built = 1 }
+  pub ended : answer ≡ record { status = status.Clean; settled = 0 ∷ []; checked = p.checked; built = 1 }
   pub files : IsTrue disk_tells → Same (read_after_all p.steps old.files) new.files
   pub printed : IsTrue sink_tells → new.printed ≡ old.printed ++ p.report
   pub disk_count : new.disk_count ≡ old.disk_count
@@ -43,7 +45,7 @@ pub record DiskFails (p : Publication) (old new : Seen) (answer : Answer) : Type
 
 -- the sink failed, and a front of the report was printed
 pub record SinkFails (sink_tells : Bool) (p : Publication) (old new : Seen) (answer : Answer) : Type 0 where
-  pub ended : answer ≡ record { status = status.Outside Sink None; settled = []; checked = 1; built = 1 }
+  pub ended : answer ≡ record { status = status.Outside Sink None; settled = []; checked = p.checked; built = 1 }
   pub printed : IsTrue sink_tells → (n : ℕ) × (new.printed ≡ old.printed ++ take n p.report)
   pub disk_count : new.disk_count ≡ old.disk_count
   pub sink_count : Rose old.sink_count new.sink_count

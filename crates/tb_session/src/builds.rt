@@ -1,59 +1,26 @@
-ghost use Rattle.std.specs.Prelude.{◌≡◌, ◌++◌, ◌∷◌, [], IfOk, IsTrue, codes};
+ghost use Rattle.std.specs.Prelude.{◌≡◌, ◌++◌, ◌∷◌, [], IfOk, IsPermutation, IsSortedByKey, List, OnOk, map};
+ghost use Rattle.std.specs.List.{flat_map};
 ghost use Rattle.tb_face.specs.Digests.{sha};
+ghost use Rattle.tb_face.specs.Infos.{spelling};
 ghost use Rattle.tb_face.specs.Options.{options_text};
-ghost use Rattle.tb_face.specs.Outputs.{output_text, info_text};
-ghost use Rattle.tb_session.specs.Builds.{build_of, info_of, options_of, record_of};
-ghost use Rattle.tb_session.specs.Lines.{dts_text};
-ghost use Rattle.tb_session.specs.Projects.{is_stem, out_folder};
+ghost use Rattle.tb_face.specs.Outputs.{info_text};
+ghost use Rattle.tb_outside.specs.declared.disks.DiskStep.TheVariants.{Write, Sync};
+ghost use Rattle.tb_text.specs.Bytes.{bytes_cmp};
+ghost use Rattle.tb_session.specs.Builds.{options_of, info_with};
+ghost use Rattle.tb_session.specs.Plans.{config_path, out_folder};
 ghost use Rattle.tb_session.specs.Reports.{last_line};
-ghost use Rattle.tb_session.specs.Scripts.{script};
+ghost use Rattle.tb_session.specs.Scripts.{IsScript};
+ghost use Rattle.tb_session.specs.Sources.{Source};
+ghost use Rattle.tb_session.specs.Emitted.{emitted_of};
 
-use crate::lines::{dts, js};
-use crate::projects::{Source, config_path, known_path, out_folder};
+use crate::plans::{config_path, out_folder, root_path};
+use crate::sources::{Emitted, Writes};
 use std::alloc::Global;
 use std::fmt::Write;
-use tb_face::{
-    DECLARATION, Entry, Info, Options, SCRIPT, info_path, options_digest, output_path, signature,
-};
+use tb_face::{Entry, Info, Options, info_path, options_digest};
 use tb_info::write_info;
 use tb_outside::DiskStep;
-use tb_text::{Digest, List, Name, NoMemory, Path, PathFault, Text};
-
-// The path of a script of the output folder.
-fn js_path(alloc: Global, folder: &Path, stem: &Name) -> Result<Path, NoMemory>
-    requires folder { folder.now ≡ out_folder }
-    requires stem { IsTrue (is_stem stem.now) }
-    ensures { IfOk result (λ p. p ≡ output_text out_folder stem.now (codes ".js")) }
-{
-    match output_path(alloc, folder, stem.as_str(), SCRIPT) {
-        Ok(path) => Ok(path),
-        Err(PathFault::NoMemory) => Err(NoMemory),
-        Err(PathFault::BadPath) => unreachable!(),
-    }
-}
-
-fn dts_path(alloc: Global, folder: &Path, stem: &Name) -> Result<Path, NoMemory>
-    requires folder { folder.now ≡ out_folder }
-    requires stem { IsTrue (is_stem stem.now) }
-    ensures { IfOk result (λ p. p ≡ output_text out_folder stem.now (codes ".d.ts")) }
-{
-    match output_path(alloc, folder, stem.as_str(), DECLARATION) {
-        Ok(path) => Ok(path),
-        Err(PathFault::NoMemory) => Err(NoMemory),
-        Err(PathFault::BadPath) => unreachable!(),
-    }
-}
-
-fn info_path_in(alloc: Global, folder: &Path) -> Result<Path, NoMemory>
-    requires { folder.now ≡ out_folder }
-    ensures { IfOk result (λ p. p ≡ info_text out_folder) }
-{
-    match info_path(alloc, folder) {
-        Ok(path) => Ok(path),
-        Err(PathFault::NoMemory) => Err(NoMemory),
-        Err(PathFault::BadPath) => unreachable!(),
-    }
-}
+use tb_text::{Digest, List, NoMemory, Path, PathFault, Text};
 
 // The digest of the options of the one project.
 fn options_of(alloc: Global) -> Result<Digest, NoMemory>
@@ -68,81 +35,97 @@ fn options_of(alloc: Global) -> Result<Digest, NoMemory>
     options_digest(alloc, &options)
 }
 
-fn root_path(alloc: Global) -> Result<Path, NoMemory>
-    ensures { IfOk result (λ path. path ≡ []) }
-{
-    known_path(alloc, "")
-}
-
-fn entry_of(alloc: Global, source: &Source, declaration: &Text) -> Result<Entry, NoMemory>
-    requires path { source.now.path ≡ source.now.stem ++ codes ".ts" }
-    requires declaration { declaration.now ≡ dts_text source.now.line }
-    ensures { IfOk result (λ entry. entry ≡ record_of source.now.stem source.now.version source.now.line) }
-{
-    Ok(Entry {
-        path: source.path.clone()?,
-        version: source.version,
-        signature: Some(signature(declaration.as_slice())),
-        edges: List::new(alloc),
-        reach: List::new(alloc),
-        findings: List::new(alloc),
-    })
-}
-
-fn info_of(alloc: Global, source: &Source, declaration: &Text) -> Result<Info, NoMemory>
-    requires path { source.now.path ≡ source.now.stem ++ codes ".ts" }
-    requires declaration { declaration.now ≡ dts_text source.now.line }
-    ensures { IfOk result (λ info. info ≡ info_of source.now.stem source.now.version source.now.line) }
+fn info_with(alloc: Global, entries: List<Entry>) -> Result<Info, NoMemory>
+    ensures { IfOk result (λ info. info ≡ info_with entries) }
 {
     let options = options_of(alloc)?;
-    let mut files = List::new(alloc);
-    files.push(entry_of(alloc, source, declaration)?)?;
     Ok(Info {
         project: config_path(alloc)?,
         root: root_path(alloc)?,
         options,
-        files,
+        files: entries,
         pending: List::new(alloc),
     })
 }
 
-// These steps, and then a sync.
-fn in_order(
-    alloc: Global,
-    first: DiskStep,
-    second: DiskStep,
-    third: DiskStep,
-) -> Result<List<DiskStep>, NoMemory>
-    ensures { IfOk result (λ steps. steps ≡ first ∷ second ∷ third ∷ DiskStep.Sync ∷ []) }
+fn info_path_in(alloc: Global, folder: &Path) -> Result<Path, NoMemory>
+    requires { folder.now ≡ out_folder }
+    ensures { IfOk result (λ p. p ≡ info_text out_folder) }
 {
-    let mut steps = List::new(alloc);
-    steps.push(first)?;
-    steps.push(second)?;
-    steps.push(third)?;
-    steps.push(DiskStep::Sync)?;
-    Ok(steps)
+    match info_path(alloc, folder) {
+        Ok(path) => Ok(path),
+        Err(PathFault::NoMemory) => Err(NoMemory),
+        Err(PathFault::BadPath) => unreachable!(),
+    }
 }
 
-/// The steps that write the outputs of a source.
-pub fn script_of(alloc: Global, source: &Source) -> Result<List<DiskStep>, NoMemory>
-    requires stem { IsTrue (is_stem source.now.stem) }
-    requires path { source.now.path ≡ source.now.stem ++ codes ".ts" }
-    ensures { IfOk result (λ steps. steps ≡ script (build_of source.now.stem source.now.version source.now.line).outputs) }
+// The step that writes the info of these entries.
+fn info_write(alloc: Global, entries: List<Entry>) -> Result<DiskStep, NoMemory>
+    ensures { IfOk result (λ step. step ≡ Write (info_text out_folder) (spelling (info_with entries))) }
 {
     let folder = out_folder(alloc)?;
-    let js = js(alloc, &source.line)?;
-    let dts = dts(alloc, &source.line)?;
-    let info = info_of(alloc, source, &dts)?;
-    let info_text = write_info(alloc, &info)?;
-    let js_at = js_path(alloc, &folder, &source.stem)?;
-    let dts_at = dts_path(alloc, &folder, &source.stem)?;
-    let info_at = info_path_in(alloc, &folder)?;
-    let steps = in_order(
-        alloc,
-        DiskStep::Write(js_at, js),
-        DiskStep::Write(dts_at, dts),
-        DiskStep::Write(info_at, info_text),
-    )?;
+    let path = info_path_in(alloc, &folder)?;
+    let info = info_with(alloc, entries)?;
+    let text = write_info(alloc, &info)?;
+    Ok(DiskStep::Write(path, text))
+}
+
+/// What was emitted, taken apart: what the info records, by paths, and the outputs, by stems.
+#[derive(Drop)]
+struct Parts {
+    entries: List<Entry>,
+    writes: Vec<Writes>,
+}
+
+fn taken_apart(alloc: Global, emitted: List<Emitted>) -> Result<Parts, NoMemory>
+    ensures entries { IfOk result (λ parts. parts.entries ≡ map (λ each. each.entry) emitted) }
+    ensures writes { IfOk result (λ parts. parts.writes.items ≡ map (λ each. each.writes) emitted) }
+{
+    let mut entries = List::new(alloc);
+    let mut writes = Vec::new(alloc);
+    for each in emitted.into_vec() {
+        let Emitted { entry, writes: own } = each;
+        entries.push(entry)?;
+        writes.push(own)?;
+    }
+    Ok(Parts { entries, writes })
+}
+
+fn sort(writes: &mut Vec<Writes>)
+    ensures same { IsPermutation writes.old.items writes.new.items }
+    ensures ascending { IsSortedByKey (λ own. own.stem) bytes_cmp writes.new.items }
+{
+    writes.sort_unstable_by(|a, b| a.stem.cmp(&b.stem));
+}
+
+fn push_writes(steps: &mut List<DiskStep>, writes: Vec<Writes>) -> Result<(), NoMemory>
+    ensures { OnOk result (steps.new ≡ steps.old ++ flat_map (λ own. own.js ∷ own.declaration ∷ []) writes.items) }
+{
+    for own in writes {
+        let Writes {
+            stem: _,
+            js,
+            declaration,
+        } = own;
+        steps.push(js)?;
+        steps.push(declaration)?;
+    }
+    Ok(())
+}
+
+/// The steps that write what was emitted and its info, and have all stay.
+pub fn script_of(alloc: Global, emitted: List<Emitted>) -> Result<List<DiskStep>, NoMemory>
+    ensures { IfOk result (λ steps. (sources : List Source) → emitted ≡ map emitted_of sources → IsScript sources steps) }
+{
+    let Parts {
+        entries,
+        mut writes,
+    } = taken_apart(alloc, emitted)?;
+    sort(&mut writes);
+    let mut steps = List::new(alloc);
+    push_writes(&mut steps, writes)?;
+    steps.push(info_write(alloc, entries)?)?;
+    steps.push(DiskStep::Sync)?;
     Ok(steps)
 }
 

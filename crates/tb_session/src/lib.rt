@@ -4,12 +4,12 @@
 
 mod builds;
 mod ended;
-mod lines;
 mod opening;
+mod plans;
 mod prepares;
-mod projects;
 mod publishes;
 mod runs;
+mod sources;
 mod words;
 
 pub use ended::Ended;

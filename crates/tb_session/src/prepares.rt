@@ -3,8 +3,9 @@ ghost use Rattle.tb_session.specs.Headline.{NotServed};
 ghost use Rattle.tb_session.specs.Ready.{IsReady};
 
 use crate::builds::{last_line, script_of};
-use crate::projects::{config_path, find_source};
+use crate::plans::config_path;
 use crate::publishes::Publication;
+use crate::sources::emit_project;
 use std::alloc::Global;
 use tb_text::{List, NoMemory, Texts};
 
@@ -22,10 +23,11 @@ pub fn prepare(alloc: Global, texts: &Texts) -> Result<Option<Publication>, NoMe
     ensures ready { IfOk result (λ found. IfSome found (IsReady texts.now)) }
     ensures none { IfOk result (λ found. IsNone found → NotServed texts.now) }
 {
-    let Some(source) = find_source(alloc, texts)? else {
+    let Some(emitted) = emit_project(alloc, texts)? else {
         return Ok(None);
     };
-    let steps = script_of(alloc, &source)?;
+    let checked = emitted.len() as u64;
+    let steps = script_of(alloc, emitted)?;
     let report = last_line(alloc, 0, 0, 1)?;
     let config = config_path(alloc)?;
     let settled = opening_alone(alloc)?;
@@ -34,5 +36,6 @@ pub fn prepare(alloc: Global, texts: &Texts) -> Result<Option<Publication>, NoMe
         report,
         config,
         settled,
+        checked,
     }))
 }

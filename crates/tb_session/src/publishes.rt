@@ -1,4 +1,5 @@
-ghost use Rattle.std.specs.Prelude.{◌≡◌, [], ◌∷◌};
+ghost use Rattle.std.specs.Prelude.{◌≡◌, [], ◌∷◌, ℕ, List, All, IsTrue};
+ghost use Rattle.tb_outside.specs.Playing.{IsElsewhere};
 ghost use Rattle.tb_session.specs.Publishes.{Publishes};
 
 use crate::ended::Ended;
@@ -15,6 +16,8 @@ pub struct Publication {
     pub config: Path,
     /// The list of the one generation.
     pub settled: List<u64>,
+    /// How many inputs there are.
+    pub checked: u64,
 }
 
 /// A run that stopped before it settled anything.
@@ -42,10 +45,12 @@ pub fn publish<D: Disk, F, O: Sink>(
 ) -> Ended<D, F, O>
     requires { publication.settled ≡ 0 ∷ [] }
     ensures published { Publishes D.tells O.tells
-        (record { steps = publication.steps; report = publication.report; config = publication.config })
+        (record { steps = publication.steps; report = publication.report; config = publication.config; checked = publication.checked })
         (record { files = D.reads disk; printed = O.taken out; disk_count = D.count disk; sink_count = O.count out })
         (record { files = D.reads result.disk; printed = O.taken result.out; disk_count = D.count result.disk; sink_count = O.count result.out })
         (record { status = result.status; settled = result.settled; checked = result.checked; built = result.built }) }
+    // Whatever it answers, a path that no step names reads as before.
+    ensures others { IsTrue D.tells → (path : List ℕ) → All (IsElsewhere path) publication.steps → D.reads result.disk path ≡ D.reads disk path }
     ensures feed { result.feed ≡ feed }
 {
     let Publication {
@@ -53,6 +58,7 @@ pub fn publish<D: Disk, F, O: Sink>(
         report,
         config,
         settled,
+        checked,
     } = publication;
     if play(&mut disk, steps.as_slice()).is_err() {
         let status = Status::Outside {
@@ -68,7 +74,7 @@ pub fn publish<D: Disk, F, O: Sink>(
                 project: None,
             },
             settled: List::new(alloc),
-            checked: 1,
+            checked,
             built: 1,
             disk,
             feed,
@@ -78,7 +84,7 @@ pub fn publish<D: Disk, F, O: Sink>(
     Ended {
         status: Status::Clean,
         settled,
-        checked: 1,
+        checked,
         built: 1,
         disk,
         feed,

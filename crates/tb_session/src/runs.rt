@@ -1,8 +1,10 @@
-ghost use Rattle.std.specs.Prelude.{◌≡◌, [], IsTrue, IsSome, Some, None, map, string_bytes, true, false};
+ghost use Rattle.std.specs.Prelude.{◌≡◌, [], ℕ, List, IsTrue, IsFalse, IsSome, Some, None, map, string_bytes, true, false};
 ghost use Rattle.tb_session.specs.Commands.{Command, command_of};
 ghost use Rattle.tb_session.specs.Ends.{Ends, IsSettled};
 ghost use Rattle.tb_session.specs.Generations.{opening};
 ghost use Rattle.tb_session.specs.Headline.{Headline, Premises, NotServed};
+ghost use Rattle.tb_session.specs.Plans.{out_folder};
+ghost use Rattle.tb_text.specs.Paths.{is_inside};
 
 use crate::ended::Ended;
 use crate::opening::read_texts;
@@ -54,6 +56,8 @@ pub fn run_alone<T: Tree, D: Disk, F: Feed, O: Sink>(
     ensures unserved { IsTrue T.tells → NotServed (opening (T.texts tree.old)) → (result.disk ≡ disk) × (result.feed ≡ feed) × (result.out ≡ out) }
     ensures unread { command_of (map string_bytes words.now) ≡ None → tree.new ≡ tree.old }
     ensures tree { IsTrue T.tells → T.texts tree.new ≡ T.texts tree.old }
+    // No path outside the output folder reads otherwise, whatever the status is.
+    ensures elsewhere { IsTrue D.tells → (path : List ℕ) → IsFalse (is_inside out_folder path) → D.reads result.disk path ≡ D.reads disk path }
 {
     if !is_served(words) {
         return stopped(alloc, Status::NotBuilt, disk, feed, out);
@@ -124,6 +128,8 @@ pub fn run<
     ensures unserved { IsTrue T.tells → NotServed (opening (T.texts tree.old)) → (result.disk ≡ disk) × (result.feed ≡ feed) × (result.out ≡ out) }
     ensures unread { command_of (map string_bytes words.now) ≡ None → tree.new ≡ tree.old }
     ensures tree { IsTrue T.tells → T.texts tree.new ≡ T.texts tree.old }
+    // No path outside the output folder reads otherwise, whatever the status is.
+    ensures elsewhere { IsTrue D.tells → (path : List ℕ) → IsFalse (is_inside out_folder path) → D.reads result.disk path ≡ D.reads disk path }
 {
     run_alone(alloc, words, tree, disk, feed, out)
 }

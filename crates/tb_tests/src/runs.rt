@@ -14,6 +14,12 @@ const REPORT: &[u8] = b"generation 0: 0 errors in 1 projects\n";
 const INFO: &[u8] =
     b"{\"builder\":\"tb1\",\"files\":[{\"edges\":[],\"findings\":[],\"path\":\"a.ts\",\"reach\":[],\"signature\":\"52db5d1a3fa84d3692297673f6fede59e50d94b4ed2cab8398c7a65e1a45e6fa\",\"version\":\"8fbccf1f29c58f5ceefc8a9a2d793cadf78d1f97e74c5e33b231b96a0cf74c66\"}],\"options\":\"da63203dc008c1b6c8cf9d5721928538f32bf662e66073ab65130a6732d4e545\",\"pending\":[],\"project\":\"tsconfig.json\",\"root\":\"\"}";
 
+const EMPTY_INFO: &[u8] =
+    b"{\"builder\":\"tb1\",\"files\":[{\"edges\":[],\"findings\":[],\"path\":\"a.ts\",\"reach\":[],\"signature\":\"8e609bb71c20b858c77f0e9f90bb1319db8477b13f9f965f1a1e18524bf50881\",\"version\":\"e3b0c44298fc1c149afbf4c8996fb92427ae41e4649b934ca495991b7852b855\"}],\"options\":\"da63203dc008c1b6c8cf9d5721928538f32bf662e66073ab65130a6732d4e545\",\"pending\":[],\"project\":\"tsconfig.json\",\"root\":\"\"}";
+
+const FOLDERS_INFO: &[u8] =
+    b"{\"builder\":\"tb1\",\"files\":[{\"edges\":[],\"findings\":[],\"path\":\"lib/one.ts\",\"reach\":[],\"signature\":\"1f3e2bec8851c16200040bde0b61a3ea7e9a34cf353eff1057b3945d54c2b1c3\",\"version\":\"5a93ea3745d08ed5c8da86981593704cde8ca104889b779e9662b3c8605c0943\"},{\"edges\":[],\"findings\":[],\"path\":\"src/a-b.ts\",\"reach\":[],\"signature\":\"8e609bb71c20b858c77f0e9f90bb1319db8477b13f9f965f1a1e18524bf50881\",\"version\":\"e3b0c44298fc1c149afbf4c8996fb92427ae41e4649b934ca495991b7852b855\"},{\"edges\":[],\"findings\":[],\"path\":\"src/a.ts\",\"reach\":[],\"signature\":\"dd7279a6e85125444c833692cc3c8492871012b0e373a73e53f2db206f3a4ec9\",\"version\":\"153f09e43a5a7f67b43095f4a663ca9a542f3b2e4ddab6f3a002e3c7f1f63a4b\"}],\"options\":\"da63203dc008c1b6c8cf9d5721928538f32bf662e66073ab65130a6732d4e545\",\"pending\":[],\"project\":\"tsconfig.json\",\"root\":\"\"}";
+
 type Run = Ended<MemDisk, ScriptFeed, MemSink>;
 
 fn add(alloc: Global, texts: &mut Texts, path: &str, text: &[u8]) -> Result<(), Fail> {
@@ -72,18 +78,18 @@ fn holds(alloc: Global, disk: &MemDisk, path: &str, text: &[u8]) -> Result<bool,
     }
 }
 
-// The outputs and the report are those of the one project.
+// The run is settled, and printed the report of one project without errors.
+fn is_clean(run: &Run) -> bool {
+    run.status.code() == 0 && run.settled.as_slice() == [0].as_slice() && run.out.taken() == REPORT
+}
+
+// The disk holds the outputs of row 1's file.
 fn is_built(alloc: Global, run: &Run) -> Result<bool, Fail> {
     let js = holds(alloc, &run.disk, "dist/a.js", b"export const a = 1;\n")?;
-    let dts = holds(
-        alloc,
-        &run.disk,
-        "dist/a.d.ts",
-        b"export declare const a: number;\n",
-    )?;
+    let declaration = b"export declare const a: number;\n";
+    let dts = holds(alloc, &run.disk, "dist/a.d.ts", declaration)?;
     let info = holds(alloc, &run.disk, "dist/tsconfig.tsbuildinfo", INFO)?;
-    let report = run.out.taken() == REPORT;
-    Ok(js && dts && info && report && run.status.code() == 0)
+    Ok(js && dts && info && is_clean(run))
 }
 
 #[test]
@@ -92,10 +98,78 @@ fn one_file_is_built_with_its_report_and_info(rt: HostRuntime) -> Result<(), Fai
     for word in ["", "-b", "--build"] {
         let run = go(alloc, word, hello(alloc)?, disk(alloc, None)?, None, None)?;
         assert!(rt; is_built(alloc, &run)?, "with the word {word}");
-        assert_eq!(rt; run.settled.as_slice(), [0].as_slice());
         assert_eq!(rt; (run.checked, run.built), (1, 1));
         assert_eq!(rt; run.disk.paths(alloc)?.len(), 3);
     }
+    Ok(())
+}
+
+#[test]
+fn an_empty_file_is_a_module(rt: HostRuntime) -> Result<(), Fail> {
+    let alloc = rt.alloc();
+    let mut texts = hello(alloc)?;
+    add(alloc, &mut texts, "a.ts", b"")?;
+    let run = go(alloc, "", texts, disk(alloc, None)?, None, None)?;
+    assert!(rt; is_clean(&run));
+    let empty = b"export {};\n";
+    assert!(rt; holds(alloc, &run.disk, "dist/a.js", empty)?);
+    assert!(rt; holds(alloc, &run.disk, "dist/a.d.ts", empty)?);
+    assert!(rt; holds(alloc, &run.disk, "dist/tsconfig.tsbuildinfo", EMPTY_INFO)?);
+    Ok(())
+}
+
+// A project of three files in two folders.
+fn folders(alloc: Global) -> Result<Texts, Fail> {
+    let mut texts = Texts::new(alloc);
+    add(alloc, &mut texts, "tsconfig.json", CONFIG)?;
+    let one =
+        b"// the first\nexport interface Point { x: number; label: string; }\nexport const zero: number = 0;\n";
+    add(alloc, &mut texts, "lib/one.ts", one)?;
+    add(alloc, &mut texts, "src/a-b.ts", b"")?;
+    add(alloc, &mut texts, "src/a.ts", b"export type Name = string;")?;
+    Ok(texts)
+}
+
+// The outputs of the project of three files.
+fn folder_outputs() -> [(&'static str, &'static [u8]); 7] {
+    [
+        ("dist/lib/one.js", b"export const zero = 0;\n"),
+        (
+            "dist/lib/one.d.ts",
+            b"export interface Point {\n    x: number;\n    label: string;\n}\nexport declare const zero: number;\n",
+        ),
+        ("dist/src/a.js", b"export {};\n"),
+        ("dist/src/a.d.ts", b"export type Name = string;\n"),
+        ("dist/src/a-b.js", b"export {};\n"),
+        ("dist/src/a-b.d.ts", b"export {};\n"),
+        ("dist/tsconfig.tsbuildinfo", FOLDERS_INFO),
+    ]
+}
+
+// How many of the outputs the disk holds, in the order in which they are written, up to the first that it does not.
+fn written(alloc: Global, disk: &MemDisk) -> Result<usize, Fail> {
+    let mut count = 0;
+    for (path, text) in folder_outputs() {
+        if !holds(alloc, disk, path, text)? {
+            break;
+        }
+        count += 1;
+    }
+    Ok(count)
+}
+
+fn are_folders_built(alloc: Global, run: &Run) -> Result<bool, Fail> {
+    let all = written(alloc, &run.disk)? == 7 && run.disk.paths(alloc)?.len() == 7;
+    Ok(all && is_clean(run))
+}
+
+#[test]
+fn files_in_folders_are_built(rt: HostRuntime) -> Result<(), Fail> {
+    let alloc = rt.alloc();
+    let run = go(alloc, "", folders(alloc)?, disk(alloc, None)?, None, None)?;
+    assert!(rt; are_folders_built(alloc, &run)?);
+    assert_eq!(rt; (run.checked, run.built), (3, 1));
+    assert_eq!(rt; run.disk.calls(), 8);
     Ok(())
 }
 
@@ -104,92 +178,166 @@ fn a_failing_call_of_the_disk_is_named_and_the_next_run_builds(
     rt: HostRuntime,
 ) -> Result<(), Fail> {
     let alloc = rt.alloc();
-    let config = Path::read(alloc, "tsconfig.json")?;
-    for call in 0..4u64 {
-        let first = go(
-            alloc,
-            "",
-            hello(alloc)?,
-            disk(alloc, Some(call))?,
-            None,
-            None,
-        )?;
-        let named = Status::Outside {
-            which: Which::Disk,
-            project: Some(config.clone()?),
-        };
+    let named = Status::Outside {
+        which: Which::Disk,
+        project: Some(Path::read(alloc, "tsconfig.json")?),
+    };
+    for call in 0..8u64 {
+        let failing = disk(alloc, Some(call))?;
+        let first = go(alloc, "", folders(alloc)?, failing, None, None)?;
         assert_eq!(rt; first.status, named);
         assert!(rt; first.settled.is_empty() && first.out.taken().is_empty());
-        let second = go(alloc, "", hello(alloc)?, first.disk, None, None)?;
-        assert!(rt; is_built(alloc, &second)?, "after the call {call}");
+        // The outputs are written in the order of their stems, and nothing is written after a fault.
+        assert_eq!(rt; first.disk.calls(), call + 1);
+        assert!(rt; written(alloc, &first.disk)? as u64 >= call.min(7));
+        let second = go(alloc, "", folders(alloc)?, first.disk, None, None)?;
+        assert!(rt; are_folders_built(alloc, &second)?, "after the call {call}");
     }
     Ok(())
 }
 
 #[test]
-fn a_failing_tree_or_sink_is_named(rt: HostRuntime) -> Result<(), Fail> {
+fn a_failing_call_of_the_tree_is_named_and_the_next_run_builds(
+    rt: HostRuntime,
+) -> Result<(), Fail> {
     let alloc = rt.alloc();
-    for call in 0..3u64 {
-        let run = go(
+    let named = Status::Outside {
+        which: Which::Tree,
+        project: None,
+    };
+    for call in 0..5u64 {
+        let first = go(
             alloc,
             "",
-            hello(alloc)?,
+            folders(alloc)?,
             disk(alloc, None)?,
             Some(call),
             None,
         )?;
-        let named = Status::Outside {
-            which: Which::Tree,
-            project: None,
-        };
-        assert_eq!(rt; run.status, named);
-        assert_eq!(rt; run.disk.calls(), 0);
+        assert_eq!(rt; first.status, named);
+        assert_eq!(rt; first.disk.calls(), 0);
+        let second = go(alloc, "", folders(alloc)?, first.disk, None, None)?;
+        assert!(rt; are_folders_built(alloc, &second)?, "after the call {call}");
     }
-    let run = go(alloc, "", hello(alloc)?, disk(alloc, None)?, None, Some(0))?;
+    Ok(())
+}
+
+#[test]
+fn a_failing_sink_is_named_and_the_next_run_builds(rt: HostRuntime) -> Result<(), Fail> {
+    let alloc = rt.alloc();
+    let first = go(alloc, "", hello(alloc)?, disk(alloc, None)?, None, Some(0))?;
     let named = Status::Outside {
         which: Which::Sink,
         project: None,
     };
-    assert_eq!(rt; run.status, named);
-    assert_eq!(rt; run.status.code(), 74);
+    assert_eq!(rt; first.status, named);
+    assert_eq!(rt; first.status.code(), 74);
+    assert!(rt; first.settled.is_empty());
+    let second = go(alloc, "", hello(alloc)?, first.disk, None, None)?;
+    assert!(rt; is_built(alloc, &second)?);
     Ok(())
 }
 
-// The one project with another config, or another file beside it, or another text.
-fn other(alloc: Global, case: u8) -> Result<Texts, Fail> {
+#[test]
+fn files_that_are_not_found_change_nothing(rt: HostRuntime) -> Result<(), Fail> {
+    let alloc = rt.alloc();
+    let paths = [
+        ".b.ts",
+        ".hidden/b.ts",
+        "a.d.ts",
+        "bower_components/b.ts",
+        "dist/b.ts",
+        "notes.txt",
+        "other.json",
+        "src/.hidden/b.ts",
+        "src/node_modules/b/c.ts",
+    ];
     let mut texts = hello(alloc)?;
-    let (path, text): (&str, &[u8]) = match case {
-        0 => ("tsconfig.json", b"{}"),
-        1 => ("b.ts", b""),
-        2 => ("a.ts", b"export const a: number = 01;\n"),
-        3 => ("a.ts", b"export const a: number = 1;"),
-        4 => ("a.ts", b"export const let: number = 1;\n"),
-        5 => ("a.ts", b"export const a1: number = 1;\n"),
-        6 => ("src/a.ts", SOURCE),
-        7 => ("a.ts", b""),
-        8 => ("a.ts", b"export const a: number = 1;\n\n"),
-        _ => ("a.d.ts", b""),
-    };
-    add(alloc, &mut texts, path, text)?;
-    Ok(texts)
+    for path in paths {
+        add(alloc, &mut texts, path, b"not plain")?;
+    }
+    let run = go(alloc, "", texts, disk(alloc, None)?, None, None)?;
+    assert!(rt; is_built(alloc, &run)?);
+    assert_eq!(rt; run.disk.paths(alloc)?.len(), 3);
+    Ok(())
+}
+
+// Changes row 1's project into one that is not built yet: another config, another file beside it, or another text.
+const CHANGES: [(&str, &[u8]); 14] = [
+    ("tsconfig.json", b"{}"),
+    (
+        "tsconfig.json",
+        b"{\"compilerOptions\":{\"composite\":true,\"outDir\":\"dist\"}}\n\n",
+    ),
+    ("b.d.ts", b""),
+    ("src/b.ts", b"import \"./a\";\n"),
+    ("a.ts", b"export const a: number = 01;\n"),
+    ("a.ts", b"export const a: number = 1"),
+    ("a.ts", b"export const let: number = 1;\n"),
+    ("a.ts", b"export const a: number = \"x\";\n"),
+    ("a.ts", b"export const a = 1;\n"),
+    ("a.ts", b"const a: number = 1;\n"),
+    (
+        "a.ts",
+        b"export const a: number = 1;\nexport type a = string;\n",
+    ),
+    ("a.ts", b"export interface A { x: number; x: string; }\n"),
+    ("a.ts", b"export {};\n"),
+    ("a.ts", b"\xFF"),
+];
+
+// The run was not built, and nothing was touched.
+fn is_untouched(run: &Run) -> bool {
+    run.status == Status::NotBuilt
+        && run.disk.calls() == 0
+        && run.out.taken().is_empty()
+        && run.settled.is_empty()
 }
 
 #[test]
 fn what_is_not_built_yet_touches_nothing(rt: HostRuntime) -> Result<(), Fail> {
     let alloc = rt.alloc();
-    for case in 0..10u8 {
-        let run = go(
-            alloc,
-            "",
-            other(alloc, case)?,
-            disk(alloc, None)?,
-            None,
-            None,
-        )?;
-        assert_eq!(rt; run.status, Status::NotBuilt, "case {case}");
-        assert_eq!(rt; run.disk.calls(), 0);
-        assert!(rt; run.out.taken().is_empty() && run.settled.is_empty());
+    for (path, text) in CHANGES {
+        let mut texts = hello(alloc)?;
+        add(alloc, &mut texts, path, text)?;
+        let run = go(alloc, "", texts, disk(alloc, None)?, None, None)?;
+        assert!(rt; is_untouched(&run), "with another {path}");
     }
+    Ok(())
+}
+
+#[test]
+fn without_a_config_or_an_input_nothing_is_built(rt: HostRuntime) -> Result<(), Fail> {
+    let alloc = rt.alloc();
+    for path in ["tsconfig.json", "a.ts"] {
+        let mut texts = hello(alloc)?;
+        texts.remove(&Path::read(alloc, path)?);
+        let run = go(alloc, "", texts, disk(alloc, None)?, None, None)?;
+        assert!(rt; is_untouched(&run), "without {path}");
+    }
+    Ok(())
+}
+
+#[test]
+fn what_passes_a_limit_is_not_built(rt: HostRuntime) -> Result<(), Fail> {
+    let alloc = rt.alloc();
+    let mut texts = hello(alloc)?;
+    let large = " ".repeat(alloc, 4_194_305)?;
+    add(alloc, &mut texts, "a.ts", large.as_bytes())?;
+    let run = go(alloc, "", texts, disk(alloc, None)?, None, None)?;
+    assert!(rt; is_untouched(&run));
+    // The path of its declarations would have 1,025 bytes.
+    let mut texts = hello(alloc)?;
+    let long = format!(in alloc; "{}.ts", "b".repeat(alloc, 1015)?)?;
+    add(alloc, &mut texts, long.as_str(), SOURCE)?;
+    let run = go(alloc, "", texts, disk(alloc, None)?, None, None)?;
+    assert!(rt; is_untouched(&run));
+    Ok(())
+}
+
+#[test]
+fn an_unknown_word_is_not_built_yet(rt: HostRuntime) -> Result<(), Fail> {
+    let alloc = rt.alloc();
     let run = go(
         alloc,
         "--nope",
@@ -198,6 +346,7 @@ fn what_is_not_built_yet_touches_nothing(rt: HostRuntime) -> Result<(), Fail> {
         None,
         None,
     )?;
+    assert!(rt; is_untouched(&run));
     assert_eq!(rt; run.status.code(), 75);
     Ok(())
 }

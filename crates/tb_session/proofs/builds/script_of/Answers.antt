@@ -1,12 +1,15 @@
-use Rattle.std.proofs.Common.{◌∙◌, ap, ◌∷◌, []}
-use Rattle.tb_outside.specs.declared.disks.DiskStep.TheVariants.{Write, Sync}
-use Rattle.tb_face.specs.Infos.{spelling}
+use Rattle.std.proofs.Common.{◌≡◌, ◌++◌, ◌∷◌, [], ◌∙◌, List, IsPermutation, ap, flat_map, subst}
+use Rattle.tb_outside.specs.declared.disks.DiskStep.{DiskStep}
+use Rattle.tb_outside.specs.declared.disks.DiskStep.TheVariants.{Sync}
+use Rattle.tb_session.specs.declared.sources.Writes.{Writes}
+use Rattle.tb_session.proofs.Writing.{info_write, own_steps, is_script}
 use Rattle.tb_session.proofs.builds.script_of.Goals as goal
 
 pub returns : goal.returns
-returns c =
-    c.in_ok-steps.ensures
-    ∙ (λ i. Write (c.in_ok-js_at.ensures i) (c.in_ok-js.ensures i)
-    ∷ Write (c.in_ok-dts_at.ensures i) (c.in_ok-dts.ensures i)
-    ∷ Write (c.in_ok-info_at.ensures i) ((c.in_ok-info_text.ensures ∙ ap spelling c.in_ok-info.ensures) i)
-    ∷ Sync ∷ [])
+returns c sources are =
+    let sorted : List Writes = c.sort.new.writes.items in
+    let moved = subst (λ (ws : List Writes). IsPermutation ws sorted) c.in_ok-entries.ensures.writes c.sort.ensures.same in
+    let outputs : c.push_writes.new.steps ≡ flat_map own_steps sorted = c.in_ok-push_writes.ensures ∙ ap (λ (l : List DiskStep). l ++ flat_map own_steps sorted) c.new-steps.ensures in
+    let info = c.in_ok-info_write.ensures ∙ ap info_write c.in_ok-entries.ensures.entries in
+    is_script c.args.emitted sources are sorted c.push-2.new.self moved c.sort.ensures.ascending
+    (c.in_ok-push-2.ensures.ok ∙ ap (λ (l : List DiskStep). l ++ Sync ∷ []) (c.in_ok-push.ensures.ok ∙ (λ i. outputs i ++ info i ∷ [])))

@@ -9,6 +9,7 @@ use Rattle.tb_session.specs.Headline.{Headline, NotServed, Run}
 use Rattle.tb_session.specs.Ready.{IsReady}
 use Rattle.tb_session.specs.Generations as generations
 use Rattle.tb_session.proofs.Settling.{stopped, published, only_plain, served, unsettled}
+use Rattle.tb_session.proofs.Written.{all_elsewhere}
 use Rattle.tb_session.proofs.Ending.{failed_ends, only_tree, published_ends, unsettled_outside, unsettled_memory, unsettled_not_built}
 use Rattle.tb_session.proofs.runs.run_alone.Goals as goal
 
@@ -72,7 +73,7 @@ returns-in-Ok-Some-clause-ends g c =
     (record { tree = g.T.Tree.count c.args.tree.now; disk = g.D.Disk.count c.args.disk; feed = g.F.Feed.count c.args.feed; sink = g.O.Sink.count c.args.out })
     (record { tree = g.T.Tree.count c.read_texts.new.tree; disk = g.D.Disk.count c.publish.result.disk; feed = g.F.Feed.count c.publish.result.feed; sink = g.O.Sink.count c.publish.result.out })
     g.D.Disk.tells g.O.Sink.tells
-    (record { steps = p.steps; report = p.report; config = p.config })
+    (record { steps = p.steps; report = p.report; config = p.config; checked = p.checked })
     (record { files = g.D.Disk.reads c.args.disk; printed = g.O.Sink.taken c.args.out; disk_count = g.D.Disk.count c.args.disk; sink_count = g.O.Sink.count c.args.out })
     (record { files = g.D.Disk.reads c.publish.result.disk; printed = g.O.Sink.taken c.publish.result.out; disk_count = g.D.Disk.count c.publish.result.disk; sink_count = g.O.Sink.count c.publish.result.out })
     (record { status = c.publish.result.status; settled = c.publish.result.settled; checked = c.publish.result.checked; built = c.publish.result.built })
@@ -92,3 +93,9 @@ returns-in-Ok-None-clause-not_built g c told some nb =
 
 pub returns-in-Ok-Some-clause-unsettled : goal.returns-in-Ok-Some-clause-unsettled
 returns-in-Ok-Some-clause-unsettled g c command is watch ends = unsettled _ _ _ _ _ _ c.publish.ensures.published ends
+
+pub returns-in-Ok-Some-clause-elsewhere : goal.returns-in-Ok-Some-clause-elsewhere
+returns-in-Ok-Some-clause-elsewhere g c told path apart =
+    let p : Publication = c.in-Ok-Some.publication in
+    let ready : IsReady c.in-Ok.texts p = subst (λ (o : Option Publication). IfSome o (IsReady c.in-Ok.texts)) c.in-Ok-Some.field-0-is c.in-Ok-Some.ensures.ready in
+    c.publish.ensures.others told path (all_elsewhere ready.sources p.steps ready.script path apart)
