@@ -1,0 +1,11 @@
+pub mod Entering
+pub mod Frames
+pub mod Heads
+pub mod Items
+pub mod Keeping
+pub mod Keys
+pub mod Levels
+pub mod Paths
+pub mod Finding
+pub mod Sets
+pub mod Stepping

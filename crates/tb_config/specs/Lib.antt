@@ -1,0 +1,11 @@
+pub mod Bases
+pub mod Configs
+pub mod Contents
+pub mod Faults
+pub mod Overriding
+pub mod Givens
+pub mod Going
+pub mod Seen
+pub mod Settings
+pub mod Stacks
+pub mod Walks
