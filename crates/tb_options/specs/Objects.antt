@@ -20,15 +20,15 @@ member_faults name read within (Some d) = formed_faults name within (read d)
 
 -- a list of texts that name paths
 abbrev pub texts_faults : List ℕ → List ℕ → Data → List Fault
-texts_faults folder name object = member_faults name texts_of (astray kind.Path folder) (get name object)
+texts_faults folder name config = member_faults name texts_of (astray kind.Path folder) (get name config)
 
 -- what is wrong in a config in this folder. What its references name is looked at where they are followed, which those of a
 -- base are not
 abbrev pub object_faults : List ℕ → Data → List Fault
-object_faults folder object =
-    member_faults (codes "compilerOptions") as_object (options_faults folder) (get (codes "compilerOptions") object)
-    ++ texts_faults folder (codes "exclude") object
-    ++ member_faults (codes "extends") extends_texts (astray kind.Base folder) (get (codes "extends") object)
-    ++ texts_faults folder (codes "files") object
-    ++ texts_faults folder (codes "include") object
-    ++ member_faults (codes "references") reference_texts (λ texts. []) (get (codes "references") object)
+object_faults folder config =
+    member_faults (codes "compilerOptions") as_object (options_faults folder) (get (codes "compilerOptions") config)
+    ++ texts_faults folder (codes "exclude") config
+    ++ member_faults (codes "extends") extends_texts (astray kind.Base folder) (get (codes "extends") config)
+    ++ texts_faults folder (codes "files") config
+    ++ texts_faults folder (codes "include") config
+    ++ member_faults (codes "references") reference_texts (λ texts. []) (get (codes "references") config)
