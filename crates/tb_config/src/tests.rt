@@ -8,8 +8,8 @@ use tb_text::{Diag, List, Name, Path, Text, Texts};
 /// A path, and the text of its file; or a config's text, and its faults.
 type Row = (&'static str, &'static str);
 
-/// A config in its folder, and its one fault: the path, the code's number and the argument.
-const FAULTS: [Row; 36] = [
+/// A config in its folder, and its faults in order: the path, the code's number and the argument of each; or none.
+const FAULTS: [Row; 47] = [
     ("{", "p/c.json 5001 "),
     ("[]", "p/c.json 5001 "),
     (
@@ -145,10 +145,6 @@ const FAULTS: [Row; 36] = [
         "{\"files\": [], \"references\": [{\"path\": \"../../q\"}]}",
         "p/c.json 5014 ../../q",
     ),
-];
-
-/// A config in its folder, and its faults in order.
-const SEVERAL: [Row; 3] = [
     (
         "{\"extends\": [\"../gone\", \"../bad\", \"./c\"], \"files\": 1, \"include\": [\"../../x\"], \"compilerOptions\": {\"strict\": false, \"foo\": 1, \"bar\": 1, \"rootDir\": \"../../x\"}}",
         "bad.json 5001 ; gone.json 5002 ; p/c.json 5003 p/c.json; p/c.json 5004 files; p/c.json 5005 bar; p/c.json 5005 foo; p/c.json 5006 strict; p/c.json 5007 outDir; p/c.json 5014 ../../x",
@@ -160,6 +156,29 @@ const SEVERAL: [Row; 3] = [
     (
         "{\"compilerOptions\": 5, \"extends\": \"./gone\"}",
         "p/c.json 5004 compilerOptions; p/c.json 5007 outDir; p/gone.json 5002 ",
+    ),
+    (
+        "{\"compilerOptions\": {\"outDir\": \"/d\"}}",
+        "p/c.json 5014 /d",
+    ),
+    (
+        "{\"compilerOptions\": {\"outDir\": null}}",
+        "p/c.json 5006 outDir",
+    ),
+    (
+        "{\"extends\": [1, \"../good\"]}",
+        "p/c.json 5004 extends; p/c.json 5007 outDir",
+    ),
+    ("{\"extends\": [\"../good\", \"\"]}", "p/.json 5002 "),
+    (
+        "{\"extends\": [\"../good\", \"../good.JSON\"]}",
+        "good.JSON.json 5002 ",
+    ),
+    ("{\"extends\": [\"../good\", \"../good\"]}", ""),
+    ("{\"files\": [], \"references\": [{\"path\": \"\"}]}", ""),
+    (
+        "{\"extends\": \"../good\", \"compilerOptions\": {\"jsx\": null, \"paths\": {\"*\": [\"*\"]}}, \"compileOnSave\": null}",
+        "",
     ),
 ];
 
@@ -223,17 +242,8 @@ fn faults_of(alloc: Global, config: &str) -> Result<String, Fail> {
 }
 
 #[test]
-fn each_fault_is_found(rt: HostRuntime) -> Result<(), Fail> {
+fn faults_are_found_in_order(rt: HostRuntime) -> Result<(), Fail> {
     for (config, wanted) in FAULTS {
-        let found = faults_of(rt.alloc(), config)?;
-        assert_eq!(rt; found.as_str(), wanted, "{config}");
-    }
-    Ok(())
-}
-
-#[test]
-fn faults_stand_in_order(rt: HostRuntime) -> Result<(), Fail> {
-    for (config, wanted) in SEVERAL {
         let found = faults_of(rt.alloc(), config)?;
         assert_eq!(rt; found.as_str(), wanted, "{config}");
     }
@@ -297,6 +307,12 @@ fn setting_in(alloc: Global, files: &[Row], folder: &str) -> Result<Setting, Fai
     Ok(read_setting(alloc, &tree, &path)?)
 }
 
+// The config of a folder among these files has this setting.
+fn gives(alloc: Global, files: &[Row], folder: &str, wanted: &Setting) -> Result<bool, Fail> {
+    let found = setting_in(alloc, files, folder)?;
+    Ok(found == *wanted)
+}
+
 const PLAIN: [Row; 1] = [(
     "p/tsconfig.json",
     "{\"compilerOptions\": {\"outDir\": \"../d\"}}",
@@ -304,9 +320,8 @@ const PLAIN: [Row; 1] = [(
 
 #[test]
 fn what_is_not_given_has_its_default(rt: HostRuntime) -> Result<(), Fail> {
-    let found = setting_in(rt.alloc(), PLAIN.as_slice(), "p")?;
     let wanted = default_setting(rt.alloc(), "p", "d")?;
-    assert!(rt; found == wanted);
+    assert!(rt; gives(rt.alloc(), PLAIN.as_slice(), "p", &wanted)?);
     Ok(())
 }
 
@@ -325,27 +340,34 @@ const MERGED: [Row; 3] = [
     ),
 ];
 
+fn merged_setting(alloc: Global) -> Result<Setting, Fail> {
+    let read = ["base/one.json", "base/two.json", "tsconfig.json"];
+    Ok(Setting {
+        composite: true,
+        files: Some(paths(alloc, ["a.ts"].as_slice())?),
+        include: List::new(alloc),
+        read: paths(alloc, read.as_slice())?,
+        chain: 1,
+        ..default_setting(alloc, "", "base/y")?
+    })
+}
+
 #[test]
 fn a_later_base_overrides_and_the_rest_is_kept(rt: HostRuntime) -> Result<(), Fail> {
-    let alloc = rt.alloc();
-    let found = setting_in(alloc, MERGED.as_slice(), "")?;
-    let mut wanted = default_setting(alloc, "", "base/y")?;
-    wanted.composite = true;
-    wanted.files = Some(paths(alloc, ["a.ts"].as_slice())?);
-    wanted.include = List::new(alloc);
-    wanted.read = paths(
-        alloc,
-        ["base/one.json", "base/two.json", "tsconfig.json"].as_slice(),
-    )?;
-    wanted.chain = 1;
-    assert!(rt; found == wanted);
+    let wanted = merged_setting(rt.alloc())?;
+    assert!(rt; gives(rt.alloc(), MERGED.as_slice(), "", &wanted)?);
     Ok(())
 }
 
-const INHERITED: [Row; 3] = [
+// Both bases extend one base, which counts with the later one and so overrides the earlier one.
+const INHERITED: [Row; 4] = [
     (
         "p/tsconfig.json",
-        "{\"extends\": \"../base/middle\", \"references\": [{\"path\": \"../q\"}, {\"path\": \"r.json\"}]}",
+        "{\"extends\": [\"./first\", \"../base/middle\"], \"references\": [{\"path\": \"../q\"}, {\"path\": \"r.json\"}]}",
+    ),
+    (
+        "p/first.json",
+        "{\"extends\": \"../base/deep/one\", \"compilerOptions\": {\"composite\": true, \"rootDir\": \".\"}}",
     ),
     (
         "base/middle.json",
@@ -353,7 +375,7 @@ const INHERITED: [Row; 3] = [
     ),
     (
         "base/deep/one.json",
-        "{\"compilerOptions\": {\"target\": \"ES2022\", \"outDir\": \"no\", \"rootDir\": \"../..\", \"paths\": {\"z\": [\"t\"], \"@a/*\": [\"./src/*\", \"../*\"]}}, \"include\": [\"src\"], \"exclude\": [\"x\"], \"references\": [{\"path\": \"s\"}]}",
+        "{\"compilerOptions\": {\"strict\": true, \"isolatedDeclarations\": true, \"noEmit\": false, \"skipLibCheck\": true, \"lib\": [\"ES2022\"], \"jsx\": null, \"target\": \"ES2022\", \"module\": \"ESNext\", \"moduleResolution\": \"Bundler\", \"outDir\": \"no\", \"rootDir\": \"../..\", \"paths\": {\"z\": [\"t\"], \"@a/*\": [\"./src/*\", \"../*\"]}}, \"include\": [\"src\"], \"exclude\": [\"x\"], \"references\": [{\"path\": \"s\"}]}",
     ),
 ];
 
@@ -371,20 +393,31 @@ fn inherited_rules(alloc: Global) -> Result<List<PathRule>, Fail> {
     Ok(rules)
 }
 
+fn inherited_setting(alloc: Global) -> Result<Setting, Fail> {
+    let references = ["q/tsconfig.json", "p/r.json"];
+    let read = [
+        "base/deep/one.json",
+        "base/middle.json",
+        "p/first.json",
+        "p/tsconfig.json",
+    ];
+    Ok(Setting {
+        composite: true,
+        root: Path::read(alloc, "")?,
+        paths: inherited_rules(alloc)?,
+        include: patterns(alloc, "base/deep", ["src"].as_slice())?,
+        exclude: patterns(alloc, "base/deep", ["x"].as_slice())?,
+        references: paths(alloc, references.as_slice())?,
+        read: paths(alloc, read.as_slice())?,
+        chain: 2,
+        ..default_setting(alloc, "p", "base/out")?
+    })
+}
+
 #[test]
 fn what_is_inherited_counts_from_where_it_stands(rt: HostRuntime) -> Result<(), Fail> {
-    let alloc = rt.alloc();
-    let found = setting_in(alloc, INHERITED.as_slice(), "p")?;
-    let mut wanted = default_setting(alloc, "p", "base/out")?;
-    wanted.root = Path::read(alloc, "")?;
-    wanted.paths = inherited_rules(alloc)?;
-    wanted.include = patterns(alloc, "base/deep", ["src"].as_slice())?;
-    wanted.exclude = patterns(alloc, "base/deep", ["x"].as_slice())?;
-    wanted.references = paths(alloc, ["q/tsconfig.json", "p/r.json"].as_slice())?;
-    let read = ["base/deep/one.json", "base/middle.json", "p/tsconfig.json"];
-    wanted.read = paths(alloc, read.as_slice())?;
-    wanted.chain = 2;
-    assert!(rt; found == wanted);
+    let wanted = inherited_setting(rt.alloc())?;
+    assert!(rt; gives(rt.alloc(), INHERITED.as_slice(), "p", &wanted)?);
     Ok(())
 }
 
