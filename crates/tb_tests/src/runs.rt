@@ -130,30 +130,31 @@ fn folders(alloc: Global) -> Result<Texts, Fail> {
     Ok(texts)
 }
 
-// The outputs of the project of three files.
-fn folder_outputs() -> [(&'static str, &'static [u8]); 7] {
-    [
-        ("dist/lib/one.js", b"export const zero = 0;\n"),
-        (
+// The outputs of the project of three files, in the order in which they are written.
+fn folder_output(at: u8) -> (&'static str, &'static [u8]) {
+    match at {
+        0 => ("dist/lib/one.js", b"export const zero = 0;\n"),
+        1 => (
             "dist/lib/one.d.ts",
             b"export interface Point {\n    x: number;\n    label: string;\n}\nexport declare const zero: number;\n",
         ),
-        ("dist/src/a.js", b"export {};\n"),
-        ("dist/src/a.d.ts", b"export type Name = string;\n"),
-        ("dist/src/a-b.js", b"export {};\n"),
-        ("dist/src/a-b.d.ts", b"export {};\n"),
-        ("dist/tsconfig.tsbuildinfo", FOLDERS_INFO),
-    ]
+        2 => ("dist/src/a.js", b"export {};\n"),
+        3 => ("dist/src/a.d.ts", b"export type Name = string;\n"),
+        4 => ("dist/src/a-b.js", b"export {};\n"),
+        5 => ("dist/src/a-b.d.ts", b"export {};\n"),
+        _ => ("dist/tsconfig.tsbuildinfo", FOLDERS_INFO),
+    }
 }
 
 // How many of the outputs the disk holds, in the order in which they are written, up to the first that it does not.
-fn written(alloc: Global, disk: &MemDisk) -> Result<usize, Fail> {
+fn written(alloc: Global, disk: &MemDisk) -> Result<u64, Fail> {
     let mut count = 0;
-    for (path, text) in folder_outputs() {
+    for at in 0..7u8 {
+        let (path, text) = folder_output(at);
         if !holds(alloc, disk, path, text)? {
             break;
         }
-        count += 1;
+        count = u64::from(at) + 1;
     }
     Ok(count)
 }
@@ -189,7 +190,7 @@ fn a_failing_call_of_the_disk_is_named_and_the_next_run_builds(
         assert!(rt; first.settled.is_empty() && first.out.taken().is_empty());
         // The outputs are written in the order of their stems, and nothing is written after a fault.
         assert_eq!(rt; first.disk.calls(), call + 1);
-        assert!(rt; written(alloc, &first.disk)? as u64 >= call.min(7));
+        assert!(rt; written(alloc, &first.disk)? >= call.min(7));
         let second = go(alloc, "", folders(alloc)?, first.disk, None, None)?;
         assert!(rt; are_folders_built(alloc, &second)?, "after the call {call}");
     }
@@ -238,23 +239,27 @@ fn a_failing_sink_is_named_and_the_next_run_builds(rt: HostRuntime) -> Result<()
     Ok(())
 }
 
+// The path of a file that the config does not find.
+fn unfound(case: u8) -> &'static str {
+    match case {
+        0 => ".b.ts",
+        1 => ".hidden/b.ts",
+        2 => "a.d.ts",
+        3 => "bower_components/b.ts",
+        4 => "dist/b.ts",
+        5 => "notes.txt",
+        6 => "other.json",
+        7 => "src/.hidden/b.ts",
+        _ => "src/node_modules/b/c.ts",
+    }
+}
+
 #[test]
 fn files_that_are_not_found_change_nothing(rt: HostRuntime) -> Result<(), Fail> {
     let alloc = rt.alloc();
-    let paths = [
-        ".b.ts",
-        ".hidden/b.ts",
-        "a.d.ts",
-        "bower_components/b.ts",
-        "dist/b.ts",
-        "notes.txt",
-        "other.json",
-        "src/.hidden/b.ts",
-        "src/node_modules/b/c.ts",
-    ];
     let mut texts = hello(alloc)?;
-    for path in paths {
-        add(alloc, &mut texts, path, b"not plain")?;
+    for case in 0..9u8 {
+        add(alloc, &mut texts, unfound(case), b"not plain")?;
     }
     let run = go(alloc, "", texts, disk(alloc, None)?, None, None)?;
     assert!(rt; is_built(alloc, &run)?);
@@ -262,29 +267,31 @@ fn files_that_are_not_found_change_nothing(rt: HostRuntime) -> Result<(), Fail> 
     Ok(())
 }
 
-// Changes row 1's project into one that is not built yet: another config, another file beside it, or another text.
-const CHANGES: [(&str, &[u8]); 14] = [
-    ("tsconfig.json", b"{}"),
-    (
-        "tsconfig.json",
-        b"{\"compilerOptions\":{\"composite\":true,\"outDir\":\"dist\"}}\n\n",
-    ),
-    ("b.d.ts", b""),
-    ("src/b.ts", b"import \"./a\";\n"),
-    ("a.ts", b"export const a: number = 01;\n"),
-    ("a.ts", b"export const a: number = 1"),
-    ("a.ts", b"export const let: number = 1;\n"),
-    ("a.ts", b"export const a: number = \"x\";\n"),
-    ("a.ts", b"export const a = 1;\n"),
-    ("a.ts", b"const a: number = 1;\n"),
-    (
-        "a.ts",
-        b"export const a: number = 1;\nexport type a = string;\n",
-    ),
-    ("a.ts", b"export interface A { x: number; x: string; }\n"),
-    ("a.ts", b"export {};\n"),
-    ("a.ts", b"\xFF"),
-];
+// What makes row 1's project one that is not built yet: another config, another file beside it, or another text.
+fn change(case: u8) -> (&'static str, &'static [u8]) {
+    match case {
+        0 => ("tsconfig.json", b"{}"),
+        1 => (
+            "tsconfig.json",
+            b"{\"compilerOptions\":{\"composite\":true,\"outDir\":\"dist\"}}\n\n",
+        ),
+        2 => ("b.d.ts", b""),
+        3 => ("src/b.ts", b"import \"./a\";\n"),
+        4 => ("a.ts", b"export const a: number = 01;\n"),
+        5 => ("a.ts", b"export const a: number = 1"),
+        6 => ("a.ts", b"export const let: number = 1;\n"),
+        7 => ("a.ts", b"export const a: number = \"x\";\n"),
+        8 => ("a.ts", b"export const a = 1;\n"),
+        9 => ("a.ts", b"const a: number = 1;\n"),
+        10 => (
+            "a.ts",
+            b"export const a: number = 1;\nexport type a = string;\n",
+        ),
+        11 => ("a.ts", b"export interface A { x: number; x: string; }\n"),
+        12 => ("a.ts", b"export {};\n"),
+        _ => ("a.ts", b"\xFF"),
+    }
+}
 
 // The run was not built, and nothing was touched.
 fn is_untouched(run: &Run) -> bool {
@@ -297,11 +304,12 @@ fn is_untouched(run: &Run) -> bool {
 #[test]
 fn what_is_not_built_yet_touches_nothing(rt: HostRuntime) -> Result<(), Fail> {
     let alloc = rt.alloc();
-    for (path, text) in CHANGES {
+    for case in 0..14u8 {
+        let (path, text) = change(case);
         let mut texts = hello(alloc)?;
         add(alloc, &mut texts, path, text)?;
         let run = go(alloc, "", texts, disk(alloc, None)?, None, None)?;
-        assert!(rt; is_untouched(&run), "with another {path}");
+        assert!(rt; is_untouched(&run), "in case {case}");
     }
     Ok(())
 }
