@@ -1,0 +1,17 @@
+pub mod Members
+pub mod Faults
+pub mod Orders
+pub mod Inputs
+pub mod Outputs
+pub mod Folders
+pub mod Limits
+pub mod Projects
+pub mod Plans
+pub mod Laws
+pub mod Searches
+pub mod Visits
+pub mod Owners
+pub mod Covers
+pub mod Nested
+pub mod Upstream
+pub mod Statuses
