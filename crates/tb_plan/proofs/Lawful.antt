@@ -1,6 +1,6 @@
 -- What holds of every plan that has no faults.
 use Rattle.std.proofs.Common.{◌≡◌, ℕ, zero, suc, ◌+◌, ◌<◌, ◌≤◌, ◌==◌, Bool, true, false, cond, not, List, [], ◌∷◌, ◌++◌, length, refl, sym, ap, subst, ◌∙◌, inl, inr, arith, append_assoc}
-use Rattle.std.specs.Prelude.{codes, Contains, map, fold, slice_get, Option, Some, None, Ok, Err, Result, IfOk}
+use Rattle.std.specs.Prelude.{◌&&◌, codes, nat_lt, sum_by, Contains, map, fold, slice_get, Option, Some, None, Ok, Err, Result, IfOk}
 use Rattle.std.specs.List.{filter, flat_map, list_any, range_with_len, AllByRecursion}
 use Rattle.std.specs.List.Sorted.{IsStrictlySortedBy}
 use Rattle.std.specs.Ordering.{nat_cmp}
@@ -9,6 +9,8 @@ use Rattle.std.specs.Str.{bytes_eq}
 use Rattle.std.specs.declared.cmp.Ordering.TheVariants.{Less, Equal, Greater}
 use Rattle.std.proofs.lemmas.Bool.{cases_lt, lt-ltb, false≢true, eqb-true, eq-eqb}
 use Rattle.std.proofs.lemmas.List.{length_push}
+use Rattle.std.proofs.lemmas.List.Sums.{sum_by-append, sum_by-cons}
+use Rattle.std.proofs.lemmas.Slice.Eq.{bytes_eq-Decides}
 use Rattle.std.proofs.lemmas.List.Kept.{IsStrictlySortedBy-filter}
 use Rattle.tb_text.specs.Bytes.{bytes_cmp}
 use Rattle.tb_text.specs.Paths.{is_inside, is_path}
@@ -21,24 +23,26 @@ use Rattle.tb_config.specs.Settings.{setting_of}
 use Rattle.tb_config.specs.declared.setting.Setting.{Setting}
 use Rattle.tb_plan.specs.Faults.{fault_if, own_fault, in_order}
 use Rattle.tb_plan.specs.Folders.{are_shared, is_inside_own, kept_apart, covered_in, covered_faults, nested_faults}
-use Rattle.tb_plan.specs.Inputs.{folders_of, is_input, inputs_of, sources_of, input_faults, shared_after, shared_faults}
-use Rattle.tb_plan.specs.Laws.{IsGoodInput, IsGoodProject, IsUpstream, AreApart, PlanOk}
-use Rattle.tb_plan.specs.Limits.{most_bytes, size_of, is_large, project_limits, plan_limits, limit_faults}
-use Rattle.tb_plan.specs.Orders.{Tree, Paths, is_among, visited}
+use Rattle.tb_plan.specs.Inputs.{folders_of, is_input, inputs_of, sources_of, name_faults, lack_faults, input_faults, shared_after, shared_faults}
+use Rattle.tb_plan.specs.Laws.{IsGoodInput, IsGoodProject, IsUpstream, AreApart, IsWithinLimits, PlanOk}
+use Rattle.tb_plan.specs.Limits.{most_projects, most_files, most_bytes, most_bytes_together, files_in, bytes_in, size_of, is_large, project_limits, plan_limits, limit_faults}
+use Rattle.tb_plan.specs.Orders.{Tree, Paths, Visit, is_among, references_of, visited}
 use Rattle.tb_plan.specs.Outputs.{outside_faults, texts_by, faults_of, path_faults_in, faults_by, path_faults}
-use Rattle.tb_plan.specs.Plans.{Answers, Planned, Sound, Faulted, first_faults, status_by, setting_in, source_faults, second_faults, unless_faulty, planned_of, plan_of}
+use Rattle.tb_plan.specs.Plans.{Answers, Planned, Sound, Faulted, first_faults, config_faults, cycle_faults, status_by, setting_in, source_faults, second_faults, unless_faulty, planned_of, plan_of}
 use Rattle.tb_plan.specs.Projects.{is_config_of, leads_to, is_behind, upstream_of, digest_in, with_project, projects_of}
 use Rattle.tb_plan.specs.declared.plans.Plan.{Plan}
 use Rattle.tb_plan.specs.declared.plans.PlanFault.{PlanFault}
 use Rattle.tb_plan.specs.declared.plans.Project.{Project}
 use Rattle.tb_plan.specs.declared.sources.Sources.{Sources}
 use Rattle.tb_plan.proofs.Covered.{setting_there}
+use Rattle.tb_plan.proofs.Alike.{all_distinct, all_behind, distinct_at, behind_at, settings_at}
 use Rattle.tb_plan.proofs.Among.{any_from, any_in, in_among, in_file}
-use Rattle.tb_plan.proofs.Found.{files_sorted, or_cases, or_second, and_true}
+use Rattle.tb_plan.proofs.Found.{files_sorted, or_cases, or_first, or_second, and_true}
 use Rattle.tb_plan.proofs.Members.{In, in_from, in_back, in_left, in_right, in_map, from_map, in_filter, from_filter, in_flat}
 use Rattle.tb_plan.proofs.Pairs.{in_nested, from_range, in_range, within, number_in, at_length, left_get}
 use Rattle.tb_plan.proofs.Placed.{no_more}
-use Rattle.tb_plan.proofs.Planned.{no_first_part, plan_is}
+use Rattle.tb_plan.proofs.Planned.{no_first_part, within_limit, no_settings, plan_is, settings_are}
+use Rattle.tb_plan.proofs.Visited.{Distinct, Behind}
 
 -- ---- where a test finds nothing
 
@@ -161,9 +165,42 @@ shared_by before (x ∷ rest) zero (suc j) r s path lt e f h k =
 shared_by before (x ∷ rest) (suc i) (suc j) r s path lt e f h k =
     in_right (map (own_fault x.setting.config 5015) (filter (is_among before) x.inputs)) _ (own_fault s.setting.config 5015 path) (shared_by (before ++ x.inputs) rest i j r s path (omega arith) e f h k)
 
+-- ---- what is counted
+
+made_sum : (f : Project → ℕ) (g : Sources → ℕ) → ((p : Project) (s : Sources) → p.inputs ≡ s.inputs → f p ≡ g s) → (before : List Project) (sources : List Sources) → sum_by f (made before sources) ≡ sum_by f before + sum_by g sources
+made_sum f g same before [] = omega arith
+made_sum f g same before (s ∷ rest) =
+    let x : Project = record { setting = s.setting; inputs = s.inputs; upstream = upstream_of before s.setting; options = digest_in s.setting.folder s.setting } in
+    omega (arith, made_sum f g same (with_project before s) rest, sum_by-append f before (x ∷ []), sum_by-cons f x [], same x s refl, sum_by-cons g s rest)
+
+made_many : (before : List Project) (sources : List Sources) → length (made before sources) ≡ length before + length sources
+made_many before [] = omega arith
+made_many before (s ∷ rest) =
+    let x : Project = record { setting = s.setting; inputs = s.inputs; upstream = upstream_of before s.setting; options = digest_in s.setting.folder s.setting } in
+    omega (arith, made_many (with_project before s) rest, length_push before x)
+
+-- the counts of sources are within their limits
+record FewSources (tree : Tree) (sources : List Sources) : Type 0 where
+  count : length sources ≤ most_projects
+  files : files_in sources ≤ most_files
+  bytes : bytes_in tree sources ≤ most_bytes_together
+
+few_sources : (tree : Tree) (roots : Paths) (sources : List Sources) → plan_limits tree roots sources ≡ [] → (roots ≡ [] → sources ≡ []) → FewSources tree sources
+few_sources tree [] sources e none = subst (FewSources tree) (sym (none refl)) (record { count = omega arith; files = omega arith; bytes = omega arith })
+few_sources tree (root ∷ roots) sources e none =
+    let count : List Diag = fault_if (nat_lt most_projects (length sources)) root 5012 (codes "projects") in
+    let files : List Diag = fault_if (nat_lt most_files (files_in sources)) root 5012 (codes "files") in
+    let bytes : List Diag = fault_if (nat_lt most_bytes_together (bytes_in tree sources)) root 5012 (codes "bytes") in
+    record {
+      count = within_limit most_projects (length sources) root (codes "projects") (no_first_part count files (no_first_part (count ++ files) bytes e));
+      files = within_limit most_files (files_in sources) root (codes "files") (no_more count files (no_first_part (count ++ files) bytes e));
+      bytes = within_limit most_bytes_together (bytes_in tree sources) root (codes "bytes") (no_more (count ++ files) bytes e);
+    }
+
 -- ---- the laws
 
-module _ (tree : Tree) (roots : Paths) (settings : List Setting) (none : second_faults tree roots (sources_of tree settings) ≡ []) where
+module _ (tree : Tree) (roots : Paths) (settings : List Setting) (none : second_faults tree roots (sources_of tree settings) ≡ []) (rooted : roots ≡ [] → settings ≡ [])
+    (finished : Paths) (once : Distinct finished) (behind : Behind (references_of tree) [] finished) (named : (n : ℕ) (s : Setting) → slice_get settings n ≡ Some s → (slice_get finished n ≡ Some s.config) × (references_of tree s.config ≡ s.references)) where
   abbrev sources : List Sources
   sources = sources_of tree settings
 
@@ -207,6 +244,25 @@ module _ (tree : Tree) (roots : Paths) (settings : List Setting) (none : second_
   inputs_are s h = let r = from_map {Y = Sources} (λ t. record { setting = t; inputs = inputs_of tree (folders_of settings) t }) settings s h in
       ap (λ (x : Sources). x.inputs) (sym r.2) ∙ ap (λ (x : Sources). inputs_of tree (folders_of settings) x.setting) r.2
 
+  has_input : (s : Sources) → In sources s → s.setting.solution ≡ false → 0 < length s.inputs
+  has_input s h e = go s.setting.solution s.inputs e (no_fault_if (not s.setting.solution && length s.inputs == 0) s.setting.config 5013 (codes "files")
+      (no_more (name_faults tree s.setting) (lack_faults s.setting s.inputs) (no_first_part (input_faults tree s) (outside_faults s) (no_first_part (input_faults tree s ++ outside_faults s) (path_faults s) (no_source_faults s h)))))
+    where
+      go : (solution : Bool) (inputs : Paths) → solution ≡ false → (not solution && length inputs == 0) ≡ false → 0 < length inputs
+      go true inputs e f = absurd (false≢true (sym e))
+      go false [] e f = absurd (false≢true (sym f))
+      go false (path ∷ inputs) e f = omega arith
+
+  few : FewSources tree sources
+  few = few_sources tree roots sources (no_first_part (plan_limits tree roots sources) (flat_map (project_limits tree) sources) no_limits) (λ e. ap (sources_of tree) (rooted e))
+
+  within_limits : IsWithinLimits tree (made [] sources)
+  within_limits = record {
+    count = omega (arith, few.count, made_many [] sources);
+    files = omega (arith, few.files, made_sum (λ p. length p.inputs) (λ s. length s.inputs) (λ p s e. ap length e) [] sources);
+    bytes = omega (arith, few.bytes, made_sum (λ p. sum_by (size_of tree) p.inputs) (λ s. sum_by (size_of tree) s.inputs) (λ p s e. ap (λ (l : Paths). sum_by (size_of tree) l) e) [] sources);
+  }
+
   ascends : (s : Sources) → In sources s → IsStrictlySortedBy bytes_cmp s.inputs
   ascends s h = subst (IsStrictlySortedBy bytes_cmp) (sym (inputs_are s h)) (IsStrictlySortedBy-filter bytes_cmp (is_input tree (folders_of settings) s.setting) (keys tree) (files_sorted tree))
 
@@ -249,6 +305,7 @@ module _ (tree : Tree) (roots : Paths) (settings : List Setting) (none : second_
       let m = made_at n.0 p n.1 in
       let k = member_of sources n.0 m.s m.there in
       record {
+        some = λ e. subst (λ (l : Paths). 0 < length l) (sym m.inputs) (has_input m.s k (ap (λ (x : Setting). x.solution) (sym m.setting) ∙ e));
         ascending = subst (IsStrictlySortedBy bytes_cmp) (sym m.inputs) (ascends m.s k);
         inputs = λ path c. subst (λ (x : Setting). IsGoodInput tree x.root path) (sym m.setting) (good_input m.s path k (subst (λ (l : Paths). In l path) m.inputs (in_from p.inputs path c)));
         paths = λ folder e.
@@ -278,12 +335,47 @@ module _ (tree : Tree) (roots : Paths) (settings : List Setting) (none : second_
     | false ↦ λ t. refl
   ] refl
 
+  named_at : (number : ℕ) (p : Project) → slice_get (made [] sources) number ≡ Some p → (slice_get finished number ≡ Some p.setting.config) × (references_of tree p.setting.config ≡ p.setting.references)
+  named_at number p e =
+      let m = made_at number p e in
+      let at : slice_get settings number ≡ Some m.s.setting = ap (λ (l : List Setting). slice_get l number) (sym (settings_are tree settings sources refl)) ∙ setting_there sources number m.s m.there in
+      subst (λ (x : Setting). (slice_get finished number ≡ Some x.config) × (references_of tree x.config ≡ x.references)) (sym m.setting) (named number m.s.setting at)
+
+  nth : (ps : List Project) (n : ℕ) → n < length ps → (q : Project) × (slice_get ps n ≡ Some q)
+  nth [] n lt = absurd (omega arith)
+  nth (q ∷ ps) zero lt = (q, refl)
+  nth (q ∷ ps) (suc n) lt = nth ps n (omega arith)
+
+  same_path : (a b : List ℕ) → Some a ≡ Some b → a ≡ b
+  same_path a b e = cc
+
+  good_references : (number : ℕ) (p : Project) (reference : List ℕ) → slice_get (made [] sources) number ≡ Some p → In p.setting.references reference
+      → (up : ℕ) × (q : Project) × In p.upstream up × (slice_get (made [] sources) up ≡ Some q) × (q.setting.config ≡ reference)
+  good_references number p reference e h =
+      let m = made_at number p e in
+      let at = named_at number p e in
+      let j = behind_at (references_of tree) finished number p.setting.config reference behind at.0 (subst (λ (l : Paths). In l reference) (sym at.1) h) in
+      let q = nth m.before j.0 (omega (arith, j.1, m.count)) in
+      let there = m.kept j.0 q.0 q.1 in
+      let config : q.0.setting.config ≡ reference = same_path q.0.setting.config reference (sym (named_at j.0 q.0 there).0 ∙ j.2) in
+      let leads = λ (n : ℕ). list_any (is_behind m.before n) m.s.setting.references in
+      let own : In m.s.setting.references reference = subst (λ (x : Setting). In x.references reference) m.setting h in
+      let is : is_behind m.before j.0 reference ≡ true = or_first (is_config_of (slice_get m.before j.0) reference) (list_any (leads_to j.0 reference) m.before)
+      (ap (λ (o : Option Project). is_config_of o reference) q.1 ∙ (bytes_eq-Decides q.0.setting.config reference).1 config) in (
+        j.0,
+        q.0,
+        subst (λ (l : List ℕ). In l j.0) (sym m.upstream) (in_filter leads (range_with_len 0 (length m.before)) j.0 (in_range j.0 0 (length m.before) (omega arith) (omega (arith, j.1, m.count))) (any_in (is_behind m.before j.0) m.s.setting.references reference own is)),
+        there,
+        config,
+      )
+
   good_pair : (i j : ℕ) (p q : Project) → i < j → slice_get (made [] sources) i ≡ Some p → slice_get (made [] sources) j ≡ Some q → AreApart p q
   good_pair i j p q lt e f =
       let m = made_at i p e in
       let n = made_at j q f in
       record {
         folders = ap (λ (x : Setting). are_shared x.folder q.setting.folder) m.setting ∙ ap (λ (x : Setting). are_shared m.s.setting.folder x.folder) n.setting ∙ not_shared i j m.s n.s lt m.there n.there;
+        configs = λ same. distinct_at finished i j q.setting.config once lt ((named_at i p e).0 ∙ ap Some same) (named_at j q f).0;
         inputs = λ path c d. nothing_in (shared_faults sources) (own_fault n.s.setting.config 5015 path) no_shared
             (shared_by [] sources i j m.s n.s path lt m.there n.there (subst (λ (l : Paths). In l path) m.inputs (in_from p.inputs path c)) (subst (λ (l : Paths). In l path) n.inputs (in_from q.inputs path d)));
       }
@@ -343,7 +435,9 @@ module _ (tree : Tree) (roots : Paths) (settings : List Setting) (none : second_
   lawful_made : PlanOk tree (record { projects = made [] sources })
   lawful_made = record {
     each = λ p c. good_project p (in_from (made [] sources) p c);
+    limits = within_limits;
     upstream = good_upstream;
+    references = λ number p reference e c. let r = good_references number p reference e (in_from p.setting.references reference c) in (r.0, r.1, in_back p.upstream r.0 r.2, r.3, r.4);
     closed = λ number up far p q e f c d. in_back p.upstream far (closed_by (suc number) number up far p q (omega arith) e f (in_from p.upstream up c) (in_from q.upstream far d));
     apart = good_pair;
     outside = λ p q path c d e. good_outside p q path (in_from (made [] sources) p c) (in_from (made [] sources) q d) (in_from (p.setting.read ++ p.inputs) path e);
@@ -364,16 +458,16 @@ without_faults : (ds : List Diag) (status : Status) (planned : Planned) (plan : 
 without_faults [] status planned plan e = (refl, e)
 without_faults (d ∷ ds) status planned plan e = absurd (faulted_not (in_order (d ∷ ds)) status plan e)
 
-lawful_planned : (tree : Tree) (roots : Paths) (settings : List Setting) (plan : Plan) → planned_of tree roots (sources_of tree settings) ≡ Sound plan → PlanOk tree plan
-lawful_planned tree roots settings plan e =
-    let r = without_faults (second_faults tree roots (sources_of tree settings)) Skipped (Sound (record { projects = projects_of (sources_of tree settings) })) plan e in
-    lawful_by tree roots settings r.0 plan (sym (sound_same (record { projects = projects_of (sources_of tree settings) }) plan r.1))
+pub lawful : (tree : Tree) (roots : Paths) (plan : Plan) → (visited tree roots).cycle ≡ None → plan_of tree roots ≡ Sound plan → PlanOk tree plan
+lawful tree roots plan acyclic e =
+    let visit : Visit = visited tree roots in
+    let settings : List Setting = flat_map (λ config. setting_in (setting_of tree config)) visit.finished in
+    let r = without_faults (first_faults tree visit) (status_by tree roots visit.cycle) (planned_of tree roots (sources_of tree settings)) plan (sym (plan_is tree roots) ∙ e) in
+    let t = without_faults (second_faults tree roots (sources_of tree settings)) Skipped (Sound (record { projects = projects_of (sources_of tree settings) })) plan r.1 in
+    let whole = no_first_part (flat_map (config_faults tree) visit.finished) (cycle_faults visit.cycle) r.0 in
+    lawful_by tree roots settings t.0 (no_settings tree roots settings refl) visit.finished (all_distinct tree roots) (all_behind tree roots acyclic)
+    (λ n s. settings_at tree visit.finished n s whole) plan (sym (sound_same (record { projects = projects_of (sources_of tree settings) }) plan t.1))
 
-pub lawful : (tree : Tree) (roots : Paths) (plan : Plan) → plan_of tree roots ≡ Sound plan → PlanOk tree plan
-lawful tree roots plan e =
-    let r = without_faults (first_faults tree (visited tree roots)) (status_by tree roots (visited tree roots).cycle) _ plan (sym (plan_is tree roots) ∙ e) in
-    lawful_planned tree roots (flat_map (λ config. setting_in (setting_of tree config)) (visited tree roots).finished) plan r.1
-
-pub lawful_answer : (tree : Tree) (roots : Paths) (result : Result Plan PlanFault) → Answers result (plan_of tree roots) → IfOk result (PlanOk tree)
-lawful_answer tree roots (Ok plan) e = lawful tree roots plan e
-lawful_answer tree roots (Err fault) e = tt
+pub lawful_answer : (tree : Tree) (roots : Paths) (result : Result Plan PlanFault) → (visited tree roots).cycle ≡ None → Answers result (plan_of tree roots) → IfOk result (PlanOk tree)
+lawful_answer tree roots (Ok plan) acyclic e = lawful tree roots plan acyclic e
+lawful_answer tree roots (Err fault) acyclic e = tt

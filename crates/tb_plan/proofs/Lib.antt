@@ -18,4 +18,5 @@ pub mod Pairs
 pub mod Placed
 pub mod Marked
 pub mod Planned
+pub mod Alike
 pub mod Lawful

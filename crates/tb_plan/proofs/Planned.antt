@@ -94,9 +94,9 @@ pub no_first_part : {X : Type 0} (xs ys : List X) → xs ++ ys ≡ [] → xs ≡
 no_first_part [] ys e = refl
 no_first_part (x ∷ xs) ys e = absurd (cc)
 
-within_limit : (n : ℕ) (config first : List ℕ) → fault_if (nat_lt most_projects n) config 5012 first ≡ [] → n ≤ most_projects
-within_limit n config first e = elim (cases_lt most_projects n) [
-  | inl lt ↦ absurd (some_fault (own_fault config 5012 first) (sym (ap (λ b. cond b (own_fault config 5012 first ∷ []) []) (lt-ltb most_projects n lt)) ∙ e))
+pub within_limit : (most n : ℕ) (config first : List ℕ) → fault_if (nat_lt most n) config 5012 first ≡ [] → n ≤ most
+within_limit most n config first e = elim (cases_lt most n) [
+  | inl lt ↦ absurd (some_fault (own_fault config 5012 first) (sym (ap (λ b. cond b (own_fault config 5012 first ∷ []) []) (lt-ltb most n lt)) ∙ e))
   | inr ge ↦ ge
 ]
   where
@@ -109,7 +109,7 @@ few_by tree (root ∷ roots) projects e none =
     let files : List Diag = fault_if (nat_lt most_files (files_in projects)) root 5012 (codes "files") in
     let bytes : List Diag = fault_if (nat_lt most_bytes_together (bytes_in tree projects)) root 5012 (codes "bytes") in
     let first : List Diag = fault_if (nat_lt most_projects (length projects)) root 5012 (codes "projects") in
-    let le = within_limit (length projects) root (codes "projects") (no_first_part first files (no_first_part (first ++ files) bytes e)) in
+    let le = within_limit most_projects (length projects) root (codes "projects") (no_first_part first files (no_first_part (first ++ files) bytes e)) in
     omega (arith, le)
 
 pub few_sources : (tree : Tree) (roots : Paths) (settings : List Setting) (sources : List Sources) → second_faults tree roots (sources_of tree settings) ≡ [] → sources ≡ sources_of tree settings → (roots ≡ [] → settings ≡ []) → length sources < 2 ^ 32

@@ -24,3 +24,6 @@ mod upstream;
 mod visit;
 
 pub use plans::{Plan, PlanFault, Project, make_plan};
+
+#[cfg(test)]
+mod tests;

@@ -36,4 +36,10 @@ returns-clause-is c =
     (goes_on tree roots _ none (c.in_ok-settings.ensures tree (visited tree roots) is (no_cycle tree (visited tree roots) c.in_ok-visited.visited is none))) c.plan_in_order.ensures
 
 pub returns-clause-ok : goal.returns-clause-ok
-returns-clause-ok c = lawful_answer c.args.tree.now c.args.roots.now c.plan_in_order.result (returns-clause-is c)
+returns-clause-ok c =
+    let tree = c.args.tree.now in
+    let roots = c.args.roots.now in
+    let is = c.in_ok-visited.ensures.is in
+    let same = c.in_ok-faults.ensures tree (visited tree roots) is in
+    let none = no_faults _ _ (empty_faults _ _ _ c.is_empty.ensures c.in_ok-faults.faults.ok.0 c.if-not-is_empty.false) same in
+    lawful_answer tree roots c.plan_in_order.result (no_cycle tree (visited tree roots) c.in_ok-visited.visited is none) (returns-clause-is c)
