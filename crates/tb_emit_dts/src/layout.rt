@@ -2,12 +2,12 @@
 
 ghost use Rattle.std.specs.Prelude.{◌≡◌, ◌++◌, IfOk, OnOk, flat_map, string_bytes, codes};
 ghost use Rattle.std.specs.List.{list_any, list_all};
-ghost use Rattle.tb_tree.specs.Surface as spec;
-ghost use Rattle.tb_tree.specs.Layout.{line, export_text, kind_text};
+ghost use Rattle.tb_plain.specs.Surface as spec;
+ghost use Rattle.tb_plain.specs.Layout.{line, export_text, kind_text};
 
 use std::alloc::Global;
 use tb_text::{NoMemory, Text};
-use tb_tree::{
+use tb_plain::{
     BaseType, Declared, Interface, Key, Surface, SurfaceItem, TypeExpr, TypeMember, VarKind,
 };
 

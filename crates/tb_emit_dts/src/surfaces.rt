@@ -1,12 +1,12 @@
 //! What others see of a plain file.
 
 ghost use Rattle.std.specs.Prelude.{◌≡◌, ◌++◌, ◌∷◌, [], true, IfOk, OnOk, flat_map};
-ghost use Rattle.tb_tree.specs.Surface as spec;
-ghost use Rattle.tb_tree.specs.declared.trees.SurfaceItem.TheVariants as surface_item;
+ghost use Rattle.tb_plain.specs.Surface as spec;
+ghost use Rattle.tb_plain.specs.declared.trees.SurfaceItem.TheVariants as surface_item;
 
 use std::alloc::Global;
 use tb_text::{List, NoMemory};
-use tb_tree::{Declaration, Declarator, Declared, File, Item, Surface, SurfaceItem, VarKind};
+use tb_plain::{Declaration, Declarator, Declared, File, Item, Surface, SurfaceItem, VarKind};
 
 /// The surface of a plain file, in which every declaration is exported and every variable has its annotation. It serves
 /// until surfaces have a crate of their own.

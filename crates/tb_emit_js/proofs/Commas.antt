@@ -1,11 +1,11 @@
 -- A list with commas, as the first and the others each after `, `; and the declarators of an erased variable.
 use Rattle.std.proofs.Common.{◌≡◌, ℕ, Bool, ◌≤◌, List, [], ◌∷◌, ◌++◌, map, flat_map, length, take, drop, ◌-◌, get_or, codes, refl, ap, sym, arith, ◌∙◌, append_assoc}
 use Rattle.std.proofs.lemmas.List.{append-nil, drop_all, take_all}
-use Rattle.tb_tree.specs.declared.trees.Declarator.{Declarator}
-use Rattle.tb_tree.specs.declared.trees.Declaration.TheVariants as d
-use Rattle.tb_tree.specs.declared.trees.VarKind.{VarKind}
-use Rattle.tb_tree.specs.Layout.{line, listed, declarator_text, export_text, kind_text, item_text}
-use Rattle.tb_tree.specs.Erase.{erased_declarator, erased_declaration}
+use Rattle.tb_plain.specs.declared.trees.Declarator.{Declarator}
+use Rattle.tb_plain.specs.declared.trees.Declaration.TheVariants as d
+use Rattle.tb_plain.specs.declared.trees.VarKind.{VarKind}
+use Rattle.tb_plain.specs.Layout.{line, listed, declarator_text, export_text, kind_text, item_text}
+use Rattle.tb_plain.specs.Erase.{erased_declarator, erased_declaration}
 
 abbrev pub after_comma : Declarator → List ℕ
 after_comma of = codes ", " ++ declarator_text of

@@ -3,16 +3,16 @@ use Rattle.std.proofs.Common.{◌≡◌, ℕ, true, List, [], ◌∷◌, ◌++�
 use Rattle.std.specs.Prelude.{Some, None}
 use Rattle.tb_tree.specs.declared.marks.Mark.TheVariants as m
 use Rattle.tb_tree.specs.declared.words.Word.TheVariants as w
-use Rattle.tb_tree.specs.declared.trees.VarKind.TheVariants as v
-use Rattle.tb_tree.specs.declared.trees.Expr.{Expr}
-use Rattle.tb_tree.specs.declared.trees.Declaration.TheVariants as d
-use Rattle.tb_tree.specs.declared.trees.Item.{Item}
-use Rattle.tb_tree.specs.declared.trees.Item.TheVariants as i
+use Rattle.tb_plain.specs.declared.trees.VarKind.TheVariants as v
+use Rattle.tb_plain.specs.declared.trees.Expr.{Expr}
+use Rattle.tb_plain.specs.declared.trees.Declaration.TheVariants as d
+use Rattle.tb_plain.specs.declared.trees.Item.{Item}
+use Rattle.tb_plain.specs.declared.trees.Item.TheVariants as i
 use Rattle.tb_tree.specs.Sym.{Sym, Mark}
 use Rattle.tb_tree.specs.Words.{word_of, is_name}
 use Rattle.tb_tree.specs.Longest.{Found, Any}
-use Rattle.tb_tree.specs.Grammar as g
-use Rattle.tb_tree.specs.Grammar.{word, literal, IsItem, DerivesItem}
+use Rattle.tb_plain.specs.Grammar as g
+use Rattle.tb_plain.specs.Grammar.{word, literal, IsItem, DerivesItem}
 
 -- the variable that is left of an exported one
 abbrev pub left_var : ℕ → List ℕ → Expr → Item

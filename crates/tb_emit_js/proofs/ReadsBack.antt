@@ -3,20 +3,20 @@ use Rattle.std.proofs.Common.{◌≡◌, ℕ, Bool, true, false, if◌then◌els
 use Rattle.std.specs.Prelude.{Some}
 use Rattle.std.specs.List.{AllByRecursion, list_any}
 use Rattle.tb_tree.specs.declared.marks.Mark.TheVariants as m
-use Rattle.tb_tree.specs.declared.trees.Expr.{Expr}
-use Rattle.tb_tree.specs.declared.trees.Expr.TheVariants as e
-use Rattle.tb_tree.specs.declared.trees.Declaration.{Declaration}
-use Rattle.tb_tree.specs.declared.trees.Item.{Item}
-use Rattle.tb_tree.specs.declared.trees.Item.TheVariants as i
-use Rattle.tb_tree.specs.declared.trees.File.{File}
+use Rattle.tb_plain.specs.declared.trees.Expr.{Expr}
+use Rattle.tb_plain.specs.declared.trees.Expr.TheVariants as e
+use Rattle.tb_plain.specs.declared.trees.Declaration.{Declaration}
+use Rattle.tb_plain.specs.declared.trees.Item.{Item}
+use Rattle.tb_plain.specs.declared.trees.Item.TheVariants as i
+use Rattle.tb_plain.specs.declared.trees.File.{File}
 use Rattle.tb_tree.specs.Sym.{Sym, Mark, Lex}
 use Rattle.tb_tree.specs.Words.{word_of, is_name}
 use Rattle.tb_tree.specs.Longest.{Found, Any}
-use Rattle.tb_tree.specs.Grammar as g
-use Rattle.tb_tree.specs.Grammar.{literal, IsItem, IsDeclaration, DerivesItem}
-use Rattle.tb_tree.specs.Reading.{ReadsItems, none, more}
-use Rattle.tb_tree.specs.Erase.{erase, erased_item, erased_declaration, is_module_item}
-use Rattle.tb_tree.specs.Bare.{bare_expr, bare_item}
+use Rattle.tb_plain.specs.Grammar as g
+use Rattle.tb_plain.specs.Grammar.{literal, IsItem, IsDeclaration, DerivesItem}
+use Rattle.tb_plain.specs.Reading.{ReadsItems, none, more}
+use Rattle.tb_plain.specs.Erase.{erase, erased_item, erased_declaration, is_module_item}
+use Rattle.tb_plain.specs.Bare.{bare_expr, bare_item}
 use Rattle.tb_tree.proofs.Ends.{ap_both, found_from}
 use Rattle.tb_emit_js.specs.Symbols.{expr_symbol, item_symbols}
 use Rattle.tb_emit_js.specs.Law.{IsClassed, JsReadsBack}

@@ -3,12 +3,12 @@
 use Rattle.std.specs.Prelude.{◌≡◌, ⊤, List, map}
 use Rattle.std.specs.List.{AllByRecursion}
 use Rattle.tb_tree.specs.declared.words.Class.TheVariants as c
-use Rattle.tb_tree.specs.declared.trees.File.{File}
+use Rattle.tb_plain.specs.declared.trees.File.{File}
 use Rattle.tb_tree.specs.Sym.{Sym, Lex}
 use Rattle.tb_tree.specs.Words.{word_of}
-use Rattle.tb_tree.specs.Reading.{ReadsItems}
-use Rattle.tb_tree.specs.Erase.{erase}
-use Rattle.tb_tree.specs.Bare.{bare_file}
+use Rattle.tb_plain.specs.Reading.{ReadsItems}
+use Rattle.tb_plain.specs.Erase.{erase}
+use Rattle.tb_plain.specs.Bare.{bare_file}
 use Rattle.tb_emit_js.specs.Symbols.{bare_sym, js_symbols}
 
 -- a word is classed by its spelling

@@ -3,19 +3,19 @@ use Rattle.std.specs.Prelude.{flat_map, Bool, true, false, List, [], ◌∷◌, 
 use Rattle.tb_tree.specs.declared.marks.Mark.TheVariants as m
 use Rattle.tb_tree.specs.declared.words.Word.TheVariants as w
 use Rattle.tb_tree.specs.declared.words.Class.TheVariants as c
-use Rattle.tb_tree.specs.declared.trees.VarKind.{VarKind}
-use Rattle.tb_tree.specs.declared.trees.VarKind.TheVariants as v
-use Rattle.tb_tree.specs.declared.trees.Expr.{Expr}
-use Rattle.tb_tree.specs.declared.trees.Expr.TheVariants as e
-use Rattle.tb_tree.specs.declared.trees.Declarator.{Declarator}
-use Rattle.tb_tree.specs.declared.trees.Declaration.{Declaration}
-use Rattle.tb_tree.specs.declared.trees.Declaration.TheVariants as d
-use Rattle.tb_tree.specs.declared.trees.Item.{Item}
-use Rattle.tb_tree.specs.declared.trees.Item.TheVariants as i
-use Rattle.tb_tree.specs.declared.trees.File.{File}
+use Rattle.tb_plain.specs.declared.trees.VarKind.{VarKind}
+use Rattle.tb_plain.specs.declared.trees.VarKind.TheVariants as v
+use Rattle.tb_plain.specs.declared.trees.Expr.{Expr}
+use Rattle.tb_plain.specs.declared.trees.Expr.TheVariants as e
+use Rattle.tb_plain.specs.declared.trees.Declarator.{Declarator}
+use Rattle.tb_plain.specs.declared.trees.Declaration.{Declaration}
+use Rattle.tb_plain.specs.declared.trees.Declaration.TheVariants as d
+use Rattle.tb_plain.specs.declared.trees.Item.{Item}
+use Rattle.tb_plain.specs.declared.trees.Item.TheVariants as i
+use Rattle.tb_plain.specs.declared.trees.File.{File}
 use Rattle.tb_tree.specs.Sym.{Sym, Mark, Lex}
 use Rattle.tb_tree.specs.Words.{word_symbol}
-use Rattle.tb_tree.specs.Grammar.{word}
+use Rattle.tb_plain.specs.Grammar.{word}
 
 -- a symbol without its place
 abbrev pub bare_sym : Sym → Sym

@@ -2,12 +2,12 @@
 
 ghost use Rattle.std.specs.Prelude.{◌≡◌, ◌++◌, IfOk, OnOk, flat_map, string_bytes, codes, map};
 ghost use Rattle.std.specs.List.{list_any};
-ghost use Rattle.tb_tree.specs.Erase as erasing;
-ghost use Rattle.tb_tree.specs.Layout as spec;
+ghost use Rattle.tb_plain.specs.Erase as erasing;
+ghost use Rattle.tb_plain.specs.Layout as spec;
 
 use std::alloc::Global;
 use tb_text::{NoMemory, Text};
-use tb_tree::{Declaration, Declarator, Expr, File, Item, VarKind};
+use tb_plain::{Declaration, Declarator, Expr, File, Item, VarKind};
 
 /// The JavaScript of a file: its items without their types. Where no import and no export is left, `export {};` stands
 /// last, so that the file stays a module.

@@ -17,19 +17,19 @@ use Rattle.tb_scan.proofs.TestLemmas.{and_left, and_right}
 use Rattle.tb_tree.specs.declared.marks.Mark.TheVariants as m
 use Rattle.tb_tree.specs.declared.words.Word.TheVariants as w
 use Rattle.tb_tree.specs.declared.words.Class.TheVariants as c
-use Rattle.tb_tree.specs.declared.trees.Expr.{Expr}
-use Rattle.tb_tree.specs.declared.trees.Expr.TheVariants as e
-use Rattle.tb_tree.specs.declared.trees.Declaration.{Declaration}
-use Rattle.tb_tree.specs.declared.trees.Item.{Item}
-use Rattle.tb_tree.specs.declared.trees.Item.TheVariants as i
-use Rattle.tb_tree.specs.declared.trees.File.{File}
+use Rattle.tb_plain.specs.declared.trees.Expr.{Expr}
+use Rattle.tb_plain.specs.declared.trees.Expr.TheVariants as e
+use Rattle.tb_plain.specs.declared.trees.Declaration.{Declaration}
+use Rattle.tb_plain.specs.declared.trees.Item.{Item}
+use Rattle.tb_plain.specs.declared.trees.Item.TheVariants as i
+use Rattle.tb_plain.specs.declared.trees.File.{File}
 use Rattle.tb_tree.specs.Sym.{Sym, Mark, Lex}
 use Rattle.tb_tree.specs.Words.{word_of, early_word, middle_word, late_word, bracket, joining, operator}
-use Rattle.tb_tree.specs.Grammar as g
-use Rattle.tb_tree.specs.Grammar.{literal, IsItem, IsDeclaration}
-use Rattle.tb_tree.specs.Reading.{ReadsItems, none, more}
-use Rattle.tb_tree.specs.Erase.{erase, erased_item, erased_declaration, is_module_item}
-use Rattle.tb_tree.specs.Layout.{item_text, expr_text, js_text}
+use Rattle.tb_plain.specs.Grammar as g
+use Rattle.tb_plain.specs.Grammar.{literal, IsItem, IsDeclaration}
+use Rattle.tb_plain.specs.Reading.{ReadsItems, none, more}
+use Rattle.tb_plain.specs.Erase.{erase, erased_item, erased_declaration, is_module_item}
+use Rattle.tb_plain.specs.Layout.{item_text, expr_text, js_text}
 use Rattle.tb_tree.proofs.Ends.{ap_both}
 use Rattle.tb_parse_file.specs.Symbols.{symbols, placed, symbol_of}
 use Rattle.tb_parse_file.specs.declared.symbols.Symbol.{Symbol}
@@ -38,7 +38,7 @@ use Rattle.tb_parse_file.specs.declared.FileFault.{FileFault}
 use Rattle.tb_parse_file.specs.declared.FileFault.TheVariants as fault
 use Rattle.tb_parse_file.specs.Files.{ReadsFile, IsFile}
 use Rattle.tb_parse_file.proofs.OneFile.{file_answer}
-use Rattle.tb_tree.specs.Bare.{bare_file}
+use Rattle.tb_plain.specs.Bare.{bare_file}
 use Rattle.tb_emit_js.specs.Symbols.{bare_sym, expr_symbol, item_symbols}
 use Rattle.tb_emit_js.specs.Law.{IsClassed}
 use Rattle.tb_emit_js.proofs.Items.{left_var}

@@ -4,9 +4,9 @@ use Rattle.std.specs.Prelude.{◌&&◌, nat_lt, codes, encode_utf8}
 use Rattle.std.specs.List.{list_all}
 use Rattle.std.proofs.lemmas.Bool.Decides.{nat_tests}
 use Rattle.std.proofs.lemmas.Str.{encode_ascii}
-use Rattle.tb_tree.specs.declared.trees.Expr.{Expr}
-use Rattle.tb_tree.specs.declared.trees.Expr.TheVariants as e
-use Rattle.tb_tree.specs.Layout.{item_text, expr_text}
+use Rattle.tb_plain.specs.declared.trees.Expr.{Expr}
+use Rattle.tb_plain.specs.declared.trees.Expr.TheVariants as e
+use Rattle.tb_plain.specs.Layout.{item_text, expr_text}
 use Rattle.tb_scan.specs.declared.inside.Inside.TheVariants.{Word}
 use Rattle.tb_scan.specs.declared.braces.Bracket.TheVariants.{Brace}
 use Rattle.tb_scan.specs.declared.token.Kind.{Kind}

@@ -1,10 +1,10 @@
 -- JavaScript reads back: where a source reads as a file, the JavaScript of that file reads as the erased file, but for offsets.
 -- This project's own.
 use Rattle.std.specs.Prelude.{◌≡◌, ⊤, ℕ, List, Result, Ok, Err}
-use Rattle.tb_tree.specs.declared.trees.File.{File}
-use Rattle.tb_tree.specs.Bare.{bare_file}
-use Rattle.tb_tree.specs.Erase.{erase}
-use Rattle.tb_tree.specs.Layout.{js_text}
+use Rattle.tb_plain.specs.declared.trees.File.{File}
+use Rattle.tb_plain.specs.Bare.{bare_file}
+use Rattle.tb_plain.specs.Erase.{erase}
+use Rattle.tb_plain.specs.Layout.{js_text}
 use Rattle.tb_parse_file.specs.declared.FileFault.{FileFault}
 use Rattle.tb_parse_file.specs.declared.FileFault.TheVariants as fault
 use Rattle.tb_parse_file.specs.Files.{ReadsFile, Answers}

@@ -3,20 +3,20 @@ use Rattle.std.proofs.Common.{◌≡◌, ℕ, ◌≤◌, ◌<◌, true, List, []
 use Rattle.tb_tree.specs.declared.marks.Mark.TheVariants as m
 use Rattle.tb_tree.specs.declared.words.Word.{Word}
 use Rattle.tb_tree.specs.declared.words.Word.TheVariants as words
-use Rattle.tb_tree.specs.declared.trees.Declaration.{Declaration}
-use Rattle.tb_tree.specs.declared.trees.Declarator.{Declarator}
-use Rattle.tb_tree.specs.declared.trees.VarKind.{VarKind}
-use Rattle.tb_tree.specs.declared.trees.TypeExpr.{TypeExpr}
-use Rattle.tb_tree.specs.declared.trees.TypeMember.{TypeMember}
-use Rattle.tb_tree.specs.declared.trees.Expr.{Expr}
-use Rattle.tb_tree.specs.declared.trees.Item.{Item}
-use Rattle.tb_tree.specs.declared.trees.Item.TheVariants as items
+use Rattle.tb_plain.specs.declared.trees.Declaration.{Declaration}
+use Rattle.tb_plain.specs.declared.trees.Declarator.{Declarator}
+use Rattle.tb_plain.specs.declared.trees.VarKind.{VarKind}
+use Rattle.tb_plain.specs.declared.trees.TypeExpr.{TypeExpr}
+use Rattle.tb_plain.specs.declared.trees.TypeMember.{TypeMember}
+use Rattle.tb_plain.specs.declared.trees.Expr.{Expr}
+use Rattle.tb_plain.specs.declared.trees.Item.{Item}
+use Rattle.tb_plain.specs.declared.trees.Item.TheVariants as items
 use Rattle.tb_tree.specs.Sym.{Sym, Mark}
 use Rattle.std.specs.Prelude.{Option}
 use Rattle.tb_tree.specs.Longest.{Found, Lacks, Ends, Never, Any}
-use Rattle.tb_tree.specs.Grammar as g
-use Rattle.tb_tree.specs.Grammar.{word, IsType, IsExpr, IsAnnotation, IsValue, IsDeclarator, IsDeclarators, IsTypeMember, IsTypeMembers, IsDeclaration, IsItem, DerivesItem, max_depth}
-use Rattle.tb_tree.specs.Reading.{ReadsItems, StopsAt}
+use Rattle.tb_plain.specs.Grammar as g
+use Rattle.tb_plain.specs.Grammar.{word, IsType, IsExpr, IsAnnotation, IsValue, IsDeclarator, IsDeclarators, IsTypeMember, IsTypeMembers, IsDeclaration, IsItem, DerivesItem, max_depth}
+use Rattle.tb_plain.specs.Reading.{ReadsItems, StopsAt}
 use Rattle.tb_tree.proofs.Ends.{exact, never}
 use Rattle.tb_parse_file.specs.Rules.{DeclarationRule}
 

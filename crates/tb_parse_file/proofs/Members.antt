@@ -3,17 +3,17 @@ use Rattle.std.proofs.Common.{◌≡◌, ℕ, ◌≤◌, ◌<◌, true, false, L
 use Rattle.tb_tree.specs.declared.marks.Mark.TheVariants as m
 use Rattle.tb_tree.specs.declared.words.Word.{Word}
 use Rattle.tb_tree.specs.declared.words.Word.TheVariants as words
-use Rattle.tb_tree.specs.declared.trees.TypeExpr.{TypeExpr}
-use Rattle.tb_tree.specs.declared.trees.Key.TheVariants as keys
-use Rattle.tb_tree.specs.declared.trees.TypeMember.{TypeMember}
-use Rattle.tb_tree.specs.declared.trees.TypeMember.TheVariants as members
-use Rattle.tb_tree.specs.declared.trees.Declaration.{Declaration}
-use Rattle.tb_tree.specs.declared.trees.Declaration.TheVariants as d
+use Rattle.tb_plain.specs.declared.trees.TypeExpr.{TypeExpr}
+use Rattle.tb_plain.specs.declared.trees.Key.TheVariants as keys
+use Rattle.tb_plain.specs.declared.trees.TypeMember.{TypeMember}
+use Rattle.tb_plain.specs.declared.trees.TypeMember.TheVariants as members
+use Rattle.tb_plain.specs.declared.trees.Declaration.{Declaration}
+use Rattle.tb_plain.specs.declared.trees.Declaration.TheVariants as d
 use Rattle.tb_tree.specs.Sym.{Sym, Mark}
 use Rattle.tb_tree.specs.Words.{is_type_name}
 use Rattle.tb_tree.specs.Longest.{Found, Lacks, Ends, Starts, Never}
-use Rattle.tb_tree.specs.Grammar as g
-use Rattle.tb_tree.specs.Grammar.{word, IsType, IsTypeMember, IsTypeMembers, IsDeclaration}
+use Rattle.tb_plain.specs.Grammar as g
+use Rattle.tb_plain.specs.Grammar.{word, IsType, IsTypeMember, IsTypeMembers, IsDeclaration}
 use Rattle.tb_tree.proofs.Ends.{exact, shorter, never, starts_by, ap_both}
 use Rattle.tb_parse_file.specs.Rules.{TypeRule, MemberRule, MemberLine, MembersRule, DeclarationRule, InMembers}
 

@@ -2,11 +2,11 @@
 use Rattle.std.proofs.Common.{◌≡◌, ℕ, List, [], refl, sym, ap, subst, ◌∙◌}
 use Rattle.tb_text.specs.declared.findings.Finding.{Finding}
 use Rattle.tb_text.specs.Messages.{without_mark}
-use Rattle.tb_tree.specs.declared.trees.File.{File}
-use Rattle.tb_tree.specs.declared.trees.Item.{Item}
+use Rattle.tb_plain.specs.declared.trees.File.{File}
+use Rattle.tb_plain.specs.declared.trees.Item.{Item}
 use Rattle.tb_tree.specs.Sym.{Sym}
-use Rattle.tb_tree.specs.Reading.{ReadsItems, StopsAt}
-use Rattle.tb_tree.proofs.Unique.{one_reading, reads_or_stops, one_stop}
+use Rattle.tb_plain.specs.Reading.{ReadsItems, StopsAt}
+use Rattle.tb_plain.proofs.Unique.{one_reading, reads_or_stops, one_stop}
 use Rattle.std.specs.Prelude.{Result, Ok, Err}
 use Rattle.tb_parse_file.specs.declared.FileFault.{FileFault}
 use Rattle.tb_parse_file.specs.declared.FileFault.TheVariants as fault

@@ -4,17 +4,18 @@ use Rattle.std.specs.Prelude.{Option}
 use Rattle.tb_tree.specs.declared.marks.Mark.TheVariants as m
 use Rattle.tb_tree.specs.declared.words.Word.{Word}
 use Rattle.tb_tree.specs.declared.words.Class.{Class}
-use Rattle.tb_tree.specs.declared.trees.BaseType.{BaseType}
-use Rattle.tb_tree.specs.declared.trees.VarKind.{VarKind}
-use Rattle.tb_tree.specs.declared.trees.TypeExpr.{TypeExpr}
-use Rattle.tb_tree.specs.declared.trees.TypeExpr.TheVariants as t
-use Rattle.tb_tree.specs.declared.trees.Expr.{Expr}
-use Rattle.tb_tree.specs.declared.trees.Declarator.{Declarator}
+use Rattle.tb_plain.specs.declared.trees.BaseType.{BaseType}
+use Rattle.tb_plain.specs.declared.trees.VarKind.{VarKind}
+use Rattle.tb_plain.specs.declared.trees.TypeExpr.{TypeExpr}
+use Rattle.tb_plain.specs.declared.trees.TypeExpr.TheVariants as t
+use Rattle.tb_plain.specs.declared.trees.Expr.{Expr}
+use Rattle.tb_plain.specs.declared.trees.Declarator.{Declarator}
 use Rattle.tb_tree.specs.Sym.{Sym, Mark, Lex}
-use Rattle.tb_tree.specs.Words.{base_of, is_name}
+use Rattle.tb_tree.specs.Words.{is_name}
+use Rattle.tb_plain.specs.Bases.{base_of}
 use Rattle.tb_tree.specs.Longest.{Found, Lacks, Ends, Starts, Never}
-use Rattle.tb_tree.specs.Grammar as g
-use Rattle.tb_tree.specs.Grammar.{word, literal, IsType, IsExpr, IsAnnotation, IsValue, IsDeclarator}
+use Rattle.tb_plain.specs.Grammar as g
+use Rattle.tb_plain.specs.Grammar.{word, literal, IsType, IsExpr, IsAnnotation, IsValue, IsDeclarator}
 use Rattle.tb_tree.proofs.Ends.{exact, shorter, never, starts_by, ap_both}
 use Rattle.tb_parse_file.specs.Rules.{TypeRule, ExprRule, AnnotationRule, ValueRule, DeclaratorRule, InAnnotation}
 

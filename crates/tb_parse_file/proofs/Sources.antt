@@ -4,7 +4,7 @@ use Rattle.std.specs.Str.{IsUtf8}
 use Rattle.tb_text.specs.Messages.{without_mark}
 use Rattle.tb_scan.specs.declared.token.Token.{Token}
 use Rattle.tb_scan.specs.Tokens.{Scans}
-use Rattle.tb_tree.specs.Reading.{StopsAt}
+use Rattle.tb_plain.specs.Reading.{StopsAt}
 use Rattle.tb_tree.proofs.Ends.{ap_both}
 use Rattle.tb_parse_file.specs.Symbols.{symbols}
 use Rattle.tb_parse_file.specs.Files.{HasSymbols, HasFault, no_item, finding}

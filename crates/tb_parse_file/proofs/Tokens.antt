@@ -6,8 +6,8 @@ use Rattle.std.proofs.lemmas.Option.{slice_get_within, get_or_from_slice_get, sl
 use Rattle.tb_scan.specs.declared.token.Token.{Token}
 use Rattle.tb_tree.specs.Sym.{at_of}
 use Rattle.tb_tree.specs.Longest.{Lacks}
-use Rattle.tb_tree.specs.Grammar.{DerivesItem}
-use Rattle.tb_tree.specs.Reading.{StopsAt, here}
+use Rattle.tb_plain.specs.Grammar.{DerivesItem}
+use Rattle.tb_plain.specs.Reading.{StopsAt, here}
 use Rattle.tb_parse_file.specs.declared.symbols.Symbol.{Symbol}
 use Rattle.tb_parse_file.specs.declared.symbols.Symbol.TheVariants as s
 use Rattle.tb_parse_file.specs.declared.reader.Reader.{Reader}

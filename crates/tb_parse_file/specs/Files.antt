@@ -5,10 +5,10 @@ use Rattle.tb_text.specs.declared.findings.Finding.{Finding}
 use Rattle.tb_text.specs.Messages.{without_mark}
 use Rattle.tb_scan.specs.declared.token.Token.{Token}
 use Rattle.tb_scan.specs.Tokens.{Scans}
-use Rattle.tb_tree.specs.declared.trees.File.{File}
+use Rattle.tb_plain.specs.declared.trees.File.{File}
 use Rattle.tb_tree.specs.Sym.{Sym}
-use Rattle.tb_tree.specs.Plain.{is_plain}
-use Rattle.tb_tree.specs.Reading.{ReadsItems, StopsAt}
+use Rattle.tb_plain.specs.Plain.{is_plain}
+use Rattle.tb_plain.specs.Reading.{ReadsItems, StopsAt}
 use Rattle.tb_parse_file.specs.declared.FileFault.{FileFault}
 use Rattle.tb_parse_file.specs.declared.FileFault.TheVariants as fault
 use Rattle.tb_parse_file.specs.Symbols.{symbols}

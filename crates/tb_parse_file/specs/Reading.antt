@@ -8,7 +8,7 @@ use Rattle.tb_parse_file.specs.declared.reader.Reader.{Reader}
 use Rattle.tb_parse_file.specs.declared.reader.Read.{Read}
 use Rattle.tb_parse_file.specs.declared.parse.Reading.{Reading}
 use Rattle.tb_parse_file.specs.declared.parse.Reading.TheVariants as reading
-use Rattle.tb_tree.specs.Reading.{ReadsItems, StopsAt}
+use Rattle.tb_plain.specs.Reading.{ReadsItems, StopsAt}
 use Rattle.tb_parse_file.specs.Symbols.{spelled, placed, symbols}
 
 -- the symbols from a place on

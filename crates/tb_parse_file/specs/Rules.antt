@@ -1,14 +1,14 @@
 -- The rules of the grammar without their depths, and the symbols with which a reading of a rule may go on behind a shorter one.
 use Rattle.std.specs.Prelude.{ℕ, ◌≤◌, ◌≡◌, Bool, true, false, List, [], ◌∷◌, ◌++◌, Option}
 use Rattle.tb_tree.specs.declared.marks.Mark.TheVariants as m
-use Rattle.tb_tree.specs.declared.trees.VarKind.{VarKind}
-use Rattle.tb_tree.specs.declared.trees.TypeExpr.{TypeExpr}
-use Rattle.tb_tree.specs.declared.trees.Expr.{Expr}
-use Rattle.tb_tree.specs.declared.trees.TypeMember.{TypeMember}
-use Rattle.tb_tree.specs.declared.trees.Declarator.{Declarator}
-use Rattle.tb_tree.specs.declared.trees.Declaration.{Declaration}
+use Rattle.tb_plain.specs.declared.trees.VarKind.{VarKind}
+use Rattle.tb_plain.specs.declared.trees.TypeExpr.{TypeExpr}
+use Rattle.tb_plain.specs.declared.trees.Expr.{Expr}
+use Rattle.tb_plain.specs.declared.trees.TypeMember.{TypeMember}
+use Rattle.tb_plain.specs.declared.trees.Declarator.{Declarator}
+use Rattle.tb_plain.specs.declared.trees.Declaration.{Declaration}
 use Rattle.tb_tree.specs.Sym.{Sym, Mark}
-use Rattle.tb_tree.specs.Grammar.{max_depth, IsType, IsExpr, IsAnnotation, IsValue, IsDeclarator, IsTypeMember, IsTypeMembers, IsDeclaration}
+use Rattle.tb_plain.specs.Grammar.{max_depth, IsType, IsExpr, IsAnnotation, IsValue, IsDeclarator, IsTypeMember, IsTypeMembers, IsDeclaration}
 
 abbrev pub TypeRule : List Sym → TypeExpr → Type 0
 TypeRule xs of = (own : ℕ) × (depth : ℕ) × IsType xs of own depth × (own ≤ max_depth)

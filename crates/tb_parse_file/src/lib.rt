@@ -19,7 +19,7 @@ use std::alloc::Global;
 use std::str;
 use tb_scan::scan;
 use tb_text::{Code, Finding, Name, NoMemory};
-use tb_tree::File;
+use tb_plain::File;
 use thiserror::Error;
 
 /// An item has no reading.

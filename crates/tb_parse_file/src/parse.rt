@@ -4,16 +4,17 @@ ghost use Rattle.std.specs.Prelude.{◌≡◌, ℕ, true, List, ◌+◌, ◌≤�
 ghost use Rattle.tb_tree.specs.Sym as sym;
 ghost use Rattle.tb_tree.specs.Words as words;
 ghost use Rattle.tb_tree.specs.Longest.{Never, Any};
-ghost use Rattle.tb_tree.specs.Grammar as grammar;
+ghost use Rattle.tb_plain.specs.Grammar as grammar;
 ghost use Rattle.tb_parse_file.specs.Reading.{text_at, start_at, Stands, LacksSym, Reads, ReadsAll};
 ghost use Rattle.tb_parse_file.specs.Rules.{TypeRule, ExprRule, AnnotationRule, ValueRule, DeclaratorRule, MemberRule, MemberLine, MembersRule, DeclarationRule, InAnnotation, InMembers};
 
 use crate::reader::{Read, Reader};
-use tb_text::{List, NoMemory};
-use tb_tree::{
-    Alias, Class, Declaration, Declarator, Expr, Interface, Item, Key, Mark, TypeExpr, TypeMember,
-    VarKind, Word, base_of, is_name, is_type_name,
+use tb_plain::{
+    Alias, Declaration, Declarator, Expr, Interface, Item, Key, TypeExpr, TypeMember, VarKind,
+    base_of,
 };
+use tb_text::{List, NoMemory};
+use tb_tree::{Class, Mark, Word, is_name, is_type_name};
 
 /// What all tokens are.
 #[derive(Drop)]

@@ -2,7 +2,7 @@
 
 ghost use Rattle.std.specs.Prelude.{◌≡◌, ℕ, List, [], MatchOption, MatchBool, IfOk};
 ghost use Rattle.tb_tree.specs.Sym as sym;
-ghost use Rattle.tb_tree.specs.Grammar as grammar;
+ghost use Rattle.tb_plain.specs.Grammar as grammar;
 ghost use Rattle.tb_parse_file.specs.Reading as spec;
 
 use crate::symbols::{Symbol, spelled, symbol_of};

@@ -2,7 +2,7 @@ use crate::{FileFault, NO_ITEM, NO_TEXT, read_file};
 use std::alloc::{AllocError, Global};
 use std::rt::HostRuntime;
 use std::test::Fail;
-use tb_tree::{
+use tb_plain::{
     BaseType, Declaration, Declarator, Expr, File, Interface, Item, Key, TypeExpr, TypeMember,
 };
 

@@ -8,9 +8,9 @@ use Rattle.tb_face.specs.Outputs.{output_text, info_text}
 use Rattle.tb_face.specs.declared.infos.Entry.{Entry}
 use Rattle.tb_face.specs.declared.infos.Info.{Info}
 use Rattle.tb_face.specs.declared.options.Options.{Options}
-use Rattle.tb_tree.specs.Erase.{erase}
-use Rattle.tb_tree.specs.Layout.{js_text}
-use Rattle.tb_tree.specs.Surface.{surface, dts_text}
+use Rattle.tb_plain.specs.Erase.{erase}
+use Rattle.tb_plain.specs.Layout.{js_text}
+use Rattle.tb_plain.specs.Surface.{surface, dts_text}
 use Rattle.tb_session.specs.Generations.{Tree}
 use Rattle.tb_session.specs.Plans.{config_path, out_folder}
 use Rattle.tb_session.specs.Sources.{Source, path_of, IsProject}

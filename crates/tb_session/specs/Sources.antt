@@ -4,7 +4,7 @@ use Rattle.std.specs.List.{AllZip, ends_with}
 use Rattle.std.specs.FinMap as map
 use Rattle.tb_text.specs.Paths.{is_path}
 use Rattle.tb_face.specs.Outputs.{output_text, new_info_text}
-use Rattle.tb_tree.specs.declared.trees.File.{File}
+use Rattle.tb_plain.specs.declared.trees.File.{File}
 use Rattle.tb_parse_file.specs.Files.{ReadsPlain}
 use Rattle.tb_session.specs.Generations.{Tree}
 use Rattle.tb_session.specs.Plans.{HasConfig, inputs, out_folder, most_inputs, most_input, most_in_all, bytes_in_all}

@@ -2,10 +2,10 @@ ghost use Rattle.std.specs.Prelude.{◌≡◌, [], ℕ, List, IfOk, IfSome, IsNo
 ghost use Rattle.tb_text.specs.Paths.{is_path};
 ghost use Rattle.tb_face.specs.Digests.{sha};
 ghost use Rattle.tb_face.specs.Outputs.{output_text, stem_text, if_path};
-ghost use Rattle.tb_tree.specs.declared.trees.File.{File};
-ghost use Rattle.tb_tree.specs.Erase.{erase};
-ghost use Rattle.tb_tree.specs.Layout.{js_text};
-ghost use Rattle.tb_tree.specs.Surface.{surface, dts_text};
+ghost use Rattle.tb_plain.specs.declared.trees.File.{File};
+ghost use Rattle.tb_plain.specs.Erase.{erase};
+ghost use Rattle.tb_plain.specs.Layout.{js_text};
+ghost use Rattle.tb_plain.specs.Surface.{surface, dts_text};
 ghost use Rattle.tb_outside.specs.declared.disks.DiskStep.TheVariants.{Write};
 ghost use Rattle.tb_parse_file.specs.Files.{ReadsPlain};
 ghost use Rattle.tb_session.specs.Plans.{out_folder};
@@ -22,7 +22,7 @@ use tb_face::{
 use tb_outside::DiskStep;
 use tb_parse_file::{FileFault, read_file};
 use tb_text::{Digest, List, Name, NoMemory, Path, PathFault, Text, Texts};
-use tb_tree::{File, is_plain};
+use tb_plain::{File, is_plain};
 
 /// The outputs of an input, ready to be written.
 #[derive(Drop)]

@@ -1,4 +1,1 @@
-pub mod Deep
-mod Differ
 pub mod Ends
-pub mod Unique

@@ -1,11 +1,3 @@
-pub mod Bare
-pub mod Depth
-pub mod Erase
-pub mod Grammar
-pub mod Layout
 pub mod Longest
-pub mod Plain
-pub mod Reading
-pub mod Surface
 pub mod Sym
 pub mod Words

@@ -7,8 +7,6 @@ use Rattle.tb_tree.specs.declared.marks.Mark.TheVariants as m
 use Rattle.tb_tree.specs.declared.words.Word.{Word}
 use Rattle.tb_tree.specs.declared.words.Word.TheVariants as w
 use Rattle.tb_tree.specs.declared.words.Class.TheVariants as c
-use Rattle.tb_tree.specs.declared.trees.BaseType.{BaseType}
-use Rattle.tb_tree.specs.declared.trees.BaseType.TheVariants as b
 use Rattle.tb_tree.specs.Sym.{Sym, Mark, Lex}
 
 -- ---- words
@@ -229,11 +227,3 @@ mark_or_bad None s at = Lex c.Bad s at
 
 abbrev pub mark_symbol : List ℕ → ℕ → Sym
 mark_symbol s at = mark_or_bad (mark_of s) s at
-
--- ---- types that are words
-
-abbrev pub base_of : Word → Option BaseType
-base_of w.Number = Some b.Number
-base_of w.String = Some b.String
-base_of w.Boolean = Some b.Boolean
-base_of _ = None

@@ -1,21 +1,12 @@
-//! The trees of the language, its alphabet and its grammar, and what erasing, surfaces and the two layouts are.
+//! The alphabet of the language: its words and marks, as the grammar tells them apart.
 #![tactic(auto)]
 
-mod depths;
 mod marks;
-mod plain;
 mod spellings;
 #[cfg(test)]
 mod tests;
-mod trees;
 mod words;
 
-pub use depths::depth;
 pub use marks::Mark;
-pub use plain::is_plain;
-pub use spellings::{base_of, is_name, is_type_name, mark_of, word_of};
-pub use trees::{
-    Alias, BaseType, Declaration, Declarator, Declared, Expr, File, Interface, Item, Key, Surface,
-    SurfaceItem, TypeExpr, TypeMember, VarKind,
-};
+pub use spellings::{is_name, is_type_name, mark_of, word_of};
 pub use words::{Class, Template, Word};

@@ -5,7 +5,6 @@ ghost use Rattle.std.specs.Str.{bytes_eq};
 ghost use Rattle.tb_tree.specs.Words as spec;
 
 use crate::marks::Mark;
-use crate::trees::BaseType;
 use crate::words::Word;
 
 fn is(spelled: &[u8], wanted: &[u8]) -> bool
@@ -353,18 +352,6 @@ pub fn mark_of(spelled: &[u8]) -> Option<Mark>
         return Some(mark);
     }
     operator(spelled)
-}
-
-/// The type that a word is, if it is one.
-pub fn base_of(word: Word) -> Option<BaseType>
-    ensures { result ≡ spec.base_of word }
-{
-    match word {
-        Word::Number => Some(BaseType::Number),
-        Word::String => Some(BaseType::String),
-        Word::Boolean => Some(BaseType::Boolean),
-        _ => None,
-    }
 }
 
 /// Whether a word may name a variable.

@@ -2,7 +2,7 @@ use Rattle.std.proofs.Common.{◌≡◌, Bool, true, false, not, ◌||◌, rules
 use Rattle.std.proofs.lemmas.Bool.{false≢true}
 use Rattle.std.proofs.lemmas.Iterator.{YieldsList-from_slice}
 use Rattle.std.proofs.lemmas.Iterator.Search.{any_from_yields_List, all_from_yields_List}
-use Rattle.tb_tree.specs.Surface as spec
+use Rattle.tb_plain.specs.Surface as spec
 use Rattle.tb_emit_dts.proofs.layout.needs_export.Goals as goal
 
 by_first : (s x y : Bool) → s ≡ x → s ≡ false → not s ≡ (not x || not y)

@@ -1,5 +1,5 @@
 use Rattle.std.proofs.Common.{◌≡◌, ◌++◌, drop, flat_map, string_bytes}
-use Rattle.tb_tree.specs.Surface as spec
+use Rattle.tb_plain.specs.Surface as spec
 use Rattle.tb_emit_dts.proofs.layout.write_interface.Given as goal
 
 abbrev pub invariant-loop-member : goal.invariant-loop-member

@@ -1,5 +1,5 @@
 use Rattle.std.proofs.Common.{◌≡◌, ◌++◌, drop, flat_map}
-use Rattle.tb_tree.specs.Surface as spec
+use Rattle.tb_plain.specs.Surface as spec
 use Rattle.tb_emit_dts.proofs.surfaces.plain_surface.Given as goal
 
 abbrev pub invariant-loop-item : goal.invariant-loop-item

@@ -1,7 +1,7 @@
 use Rattle.std.proofs.Common.{◌≡◌, ◌++◌, ◌||◌, drop, flat_map, string_bytes}
 use Rattle.std.specs.List.{list_any}
-use Rattle.tb_tree.specs.Erase as erasing
-use Rattle.tb_tree.specs.Layout as spec
+use Rattle.tb_plain.specs.Erase as erasing
+use Rattle.tb_plain.specs.Layout as spec
 use Rattle.tb_emit_js.proofs.layout.js.Given as goal
 
 abbrev pub invariant-loop-item : goal.invariant-loop-item

@@ -1,6 +1,6 @@
 use Rattle.std.proofs.Common.{◌≡◌, ◌∙◌, sym, ap}
 use Rattle.std.proofs.lemmas.Bool.{true≢false}
-use Rattle.tb_tree.specs.Plain.{is_plain}
+use Rattle.tb_plain.specs.Plain.{is_plain}
 use Rattle.tb_session.proofs.sources.read_plain.Goals as goal
 
 pub returns-in-Err-Syntax-clause-none : goal.returns-in-Err-Syntax-clause-none

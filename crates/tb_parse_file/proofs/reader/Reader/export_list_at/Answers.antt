@@ -1,5 +1,5 @@
 use Rattle.std.proofs.Common.{arith, ap}
-use Rattle.tb_tree.specs.declared.trees.Item.TheVariants as items
+use Rattle.tb_plain.specs.declared.trees.Item.TheVariants as items
 use Rattle.tb_tree.proofs.Ends.{found_from, found_as}
 use Rattle.tb_parse_file.proofs.Items.{item_list}
 use Rattle.tb_parse_file.proofs.Readings.{four}

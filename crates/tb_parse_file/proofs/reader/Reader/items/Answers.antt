@@ -1,8 +1,8 @@
 use Rattle.std.proofs.Common.{sym, subst, List, arith}
-use Rattle.tb_tree.specs.declared.trees.Item.{Item}
+use Rattle.tb_plain.specs.declared.trees.Item.{Item}
 use Rattle.tb_tree.specs.Longest.{Any}
-use Rattle.tb_tree.specs.Grammar.{DerivesItem}
-use Rattle.tb_tree.specs.Reading.{StopsAt}
+use Rattle.tb_plain.specs.Grammar.{DerivesItem}
+use Rattle.tb_plain.specs.Reading.{StopsAt}
 use Rattle.tb_parse_file.specs.Reading.{rest}
 use Rattle.tb_parse_file.proofs.Items.{ItemsSoFar, items_on, items_end, item_falls}
 use Rattle.tb_parse_file.proofs.Readings.{lacking, reading}

@@ -1,5 +1,5 @@
 use Rattle.std.proofs.Common.{sym, subst, List}
-use Rattle.tb_tree.specs.declared.trees.TypeMember.{TypeMember}
+use Rattle.tb_plain.specs.declared.trees.TypeMember.{TypeMember}
 use Rattle.tb_tree.specs.Longest.{Never}
 use Rattle.tb_parse_file.specs.Reading.{rest}
 use Rattle.tb_parse_file.specs.Rules.{MemberLine}

@@ -1,5 +1,5 @@
 use Rattle.std.proofs.Common.{arith, ap, sym, ◌∙◌}
-use Rattle.tb_tree.specs.declared.trees.TypeExpr.TheVariants as t
+use Rattle.tb_plain.specs.declared.trees.TypeExpr.TheVariants as t
 use Rattle.tb_tree.proofs.Ends.{found_from, found_as}
 use Rattle.tb_parse_file.proofs.Parts.{type_found}
 use Rattle.tb_parse_file.proofs.reader.Reader.type_at.Goals as goal

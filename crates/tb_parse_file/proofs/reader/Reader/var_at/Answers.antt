@@ -1,6 +1,6 @@
 use Rattle.std.proofs.Common.{arith, ap, ◌+◌, ◌∙◌, ◌++◌, ◌∷◌, []}
-use Rattle.tb_tree.specs.declared.trees.VarKind.TheVariants as v
-use Rattle.tb_tree.specs.declared.trees.Declaration.TheVariants as d
+use Rattle.tb_plain.specs.declared.trees.VarKind.TheVariants as v
+use Rattle.tb_plain.specs.declared.trees.Declaration.TheVariants as d
 use Rattle.tb_tree.specs.Longest.{Never}
 use Rattle.tb_tree.proofs.Ends.{found_from, found_as, found_left, lacks_from}
 use Rattle.tb_parse_file.specs.Rules.{DeclaratorRule}

@@ -1,0 +1,3 @@
+pub mod Deep
+mod Differ
+pub mod Unique

@@ -1,0 +1,9 @@
+pub mod Bare
+pub mod Bases
+pub mod Depth
+pub mod Erase
+pub mod Grammar
+pub mod Layout
+pub mod Plain
+pub mod Reading
+pub mod Surface
