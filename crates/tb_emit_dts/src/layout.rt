@@ -6,10 +6,10 @@ ghost use Rattle.tb_plain.specs.Surface as spec;
 ghost use Rattle.tb_plain.specs.Layout.{line, export_text, kind_text};
 
 use std::alloc::Global;
-use tb_text::{NoMemory, Text};
 use tb_plain::{
     BaseType, Declared, Interface, Key, Surface, SurfaceItem, TypeExpr, TypeMember, VarKind,
 };
+use tb_text::{NoMemory, Text};
 
 /// The declaration file of a surface. Its last line is `export {};` where no item is an export, or where some item is
 /// none, since else the file would be no module, or would export every item.

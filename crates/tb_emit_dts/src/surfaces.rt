@@ -5,8 +5,8 @@ ghost use Rattle.tb_plain.specs.Surface as spec;
 ghost use Rattle.tb_plain.specs.declared.trees.SurfaceItem.TheVariants as surface_item;
 
 use std::alloc::Global;
-use tb_text::{List, NoMemory};
 use tb_plain::{Declaration, Declarator, Declared, File, Item, Surface, SurfaceItem, VarKind};
+use tb_text::{List, NoMemory};
 
 /// The surface of a plain file, in which every declaration is exported and every variable has its annotation. It serves
 /// until surfaces have a crate of their own.

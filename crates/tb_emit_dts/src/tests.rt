@@ -1,7 +1,7 @@
 use super::*;
 use std::test::Fail;
-use tb_text::{List, Name};
 use tb_plain::{Alias, BaseType, Declared, Surface, SurfaceItem, TypeExpr, VarKind};
+use tb_text::{List, Name};
 
 fn base(base: BaseType) -> TypeExpr {
     TypeExpr::Base { at: 0, base }

@@ -6,8 +6,8 @@ ghost use Rattle.tb_plain.specs.Erase as erasing;
 ghost use Rattle.tb_plain.specs.Layout as spec;
 
 use std::alloc::Global;
-use tb_text::{NoMemory, Text};
 use tb_plain::{Declaration, Declarator, Expr, File, Item, VarKind};
+use tb_text::{NoMemory, Text};
 
 /// The JavaScript of a file: its items without their types. Where no import and no export is left, `export {};` stands
 /// last, so that the file stays a module.

@@ -1,7 +1,7 @@
 use super::*;
 use std::test::Fail;
-use tb_text::{List, Name};
 use tb_plain::{Declaration, Declarator, Expr, File, Item, VarKind};
+use tb_text::{List, Name};
 
 // What no source reads as yet: constants that are not exported, and two of them in one list.
 #[test]

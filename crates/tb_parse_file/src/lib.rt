@@ -17,9 +17,9 @@ use parse::Reading;
 use reader::Reader;
 use std::alloc::Global;
 use std::str;
+use tb_plain::File;
 use tb_scan::scan;
 use tb_text::{Code, Finding, Name, NoMemory};
-use tb_plain::File;
 use thiserror::Error;
 
 /// An item has no reading.

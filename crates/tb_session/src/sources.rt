@@ -21,8 +21,8 @@ use tb_face::{
 };
 use tb_outside::DiskStep;
 use tb_parse_file::{FileFault, read_file};
-use tb_text::{Digest, List, Name, NoMemory, Path, PathFault, Text, Texts};
 use tb_plain::{File, is_plain};
+use tb_text::{Digest, List, Name, NoMemory, Path, PathFault, Text, Texts};
 
 /// The outputs of an input, ready to be written.
 #[derive(Drop)]
