@@ -1,1 +1,7 @@
+mod Deep
+mod DeepExprs
+mod DeepTypes
 pub mod Ends
+mod Examples
+mod Layers
+mod TypeLayers

@@ -1,3 +1,11 @@
+pub mod Bare
+pub mod Depth
+pub mod Exprs
+pub mod Items
 pub mod Longest
+pub mod Reading
+pub mod Shapes
+pub mod Surfaces
 pub mod Sym
+pub mod Types
 pub mod Words

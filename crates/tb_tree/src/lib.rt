@@ -1,12 +1,33 @@
-//! The alphabet of the language: its words and marks, as the grammar tells them apart.
+//! The alphabet of the language, its trees and its grammar.
 #![tactic(auto)]
 
+#[cfg(test)]
+mod depth_tests;
+mod depths;
+mod expr_depths;
+mod exprs;
+mod items;
 mod marks;
+mod numbers;
 mod spellings;
 #[cfg(test)]
 mod tests;
+mod type_depths;
+mod types;
 mod words;
 
+pub use depths::depth;
+pub use exprs::{
+    ArrowBody, AssignOperator, BinaryOperator, Block, BlockItem, Clause, Declarator, Expr,
+    ForStart, Function, Identifier, Param, Prop, Stmt, TemplateSpan, UnaryOperator, UpdateOperator,
+    Var, VarKind,
+};
+pub use items::{
+    Alias, Base, ClassDeclaration, ClassMember, Declaration, Declared, DeclaredClass,
+    DeclaredMember, ExportList, File, Import, Interface, Item, Spec, Specifier, Surface,
+    SurfaceItem,
+};
 pub use marks::Mark;
 pub use spellings::{is_name, is_type_name, mark_of, word_of};
+pub use types::{Key, TypeExpr, TypeKeyword, TypeMember, TypeParam};
 pub use words::{Class, Template, Word};
