@@ -10,19 +10,27 @@ use std::rt::Files;
 use tb_outside::{Disk, Failed, Trouble};
 use tb_text::{List, Path, Text};
 
+/// How changes are written out for good. It starts threads, which the methods of a trait cannot do by themselves.
+pub type Settle = Box<dyn Fn(&mut Changes) -> io::Result<()> + Send>;
+
 /// The files below the folder where the program starts, to which outputs are written. It tells nothing of them.
 #[derive(Drop)]
 pub struct RealDisk<'a, R> {
     rt: &'a R,
     changes: Changes,
+    settle: Settle,
     faults: Faults,
+    ghost settles: { IsAlwaysCallable settle },
 }
 
 impl<'a, R> RealDisk<'a, R> {
-    pub fn new(rt: &'a R, alloc: Global) -> RealDisk<'a, R> {
+    pub fn new(rt: &'a R, alloc: Global, settle: Settle) -> RealDisk<'a, R>
+        requires { IsAlwaysCallable settle }
+    {
         RealDisk {
             rt,
             changes: Changes::none(alloc),
+            settle,
             faults: Faults::none(),
         }
     }
@@ -33,7 +41,7 @@ impl<'a, R: Files> RealDisk<'a, R> {
         ensures { self.new.faults ≡ self.old.faults }
     {
         self.changes.note(path)?;
-        write_file(self.rt, path, bytes)
+        write_file(self.rt, self.changes.alloc(), path, bytes)
     }
 
     fn shift(&mut self, from: &str, to: &str) -> io::Result<()>
@@ -99,7 +107,7 @@ impl<'a, R: Files + AllocGlobal + Clone + Drop> Disk for RealDisk<'a, R> {
     }
 
     fn sync(&mut self) -> Result<(), Failed> {
-        let answer = self.changes.settle(self.rt);
+        let answer = (self.settle)(&mut self.changes);
         self.faults.done(answer)
     }
 }

@@ -49,10 +49,23 @@ pub fn stands<R: Files>(rt: &R, path: &str) -> io::Result<bool> {
     is_file(fs::metadata(rt, path))
 }
 
-/// Puts a file at a path, and the folders above it.
-pub fn write_file<R: Files>(rt: &R, path: &str, bytes: &[u8]) -> io::Result<()> {
+/// Puts a file at a path, and the folders above it. A file that has these bytes already is left as it is.
+pub fn write_file<R: Files>(rt: &R, alloc: Global, path: &str, bytes: &[u8]) -> io::Result<()> {
+    if holds(rt, alloc, path, bytes) {
+        return Ok(());
+    }
     make_folders(rt, path)?;
     fs::write(rt, path, bytes)
+}
+
+// Whether a file at a path is known to have these bytes and no more. One that cannot be read is not known to.
+fn holds<R: Files>(rt: &R, alloc: Global, path: &str, bytes: &[u8]) -> bool {
+    // One byte further than is wanted shows that there is more.
+    let most = (bytes.len() as u64).saturating_add(1);
+    match read_file(rt, alloc, path, most) {
+        Ok(Some(text)) => text.as_slice() == bytes,
+        Ok(None) | Err(_) => false,
+    }
 }
 
 /// Moves a file, and makes the folders above the target. Nothing is done where there is no file to move.

@@ -14,6 +14,7 @@ mod listings;
 mod sinks;
 mod trees;
 
+use changes::Changes;
 use disks::RealDisk;
 use feeds::EndFeed;
 use gates::OpenGate;
@@ -26,10 +27,11 @@ use tb_text::{Status, UsageFault};
 use trees::RealTree;
 
 fn main(rt: HostRuntime) -> ExitCode {
-    let status = match words(&rt) {
-        Ok(words) => {
+    let settle = Box::new(rt.alloc(), move |changes: &mut Changes| changes.settle(&rt));
+    let status = match (words(&rt), settle) {
+        (Ok(words), Ok(settle)) => {
             let mut tree = RealTree::new(&rt);
-            let disk = RealDisk::new(&rt, rt.alloc());
+            let disk = RealDisk::new(&rt, rt.alloc(), settle);
             let out = RealSink::new(&rt);
             let words = words.as_slice();
             run(
@@ -44,7 +46,8 @@ fn main(rt: HostRuntime) -> ExitCode {
             )
             .status
         }
-        Err(error) => unread(&error),
+        (Err(error), _) => unread(&error),
+        (Ok(_), Err(_)) => Status::NoMemory,
     };
     if let Some(line) = complaint(&status) {
         // The exit status tells the same where nobody takes the line.

@@ -1,0 +1,2 @@
+export interface Settings { title: string; verbose: boolean; most: number; }
+export type Title = string;
