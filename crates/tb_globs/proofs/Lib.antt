@@ -1,3 +1,4 @@
 mod Chunks
 mod Ends
+mod Leading
 mod Sides

@@ -72,9 +72,9 @@ parts_match Exclude parts ss = list_any (all_match Exclude parts) (fronts ss)
 
 -- ---- the parts of a pattern
 
--- a segment of the pattern's own text
+-- a segment of the pattern's own text: `**`, one with wildcards, or one that stands for itself
 abbrev pub own_part : List ℕ → Part
-own_part s = if bytes_eq s (42 ∷ 42 ∷ []) then Folders else Wild (chars s)
+own_part s = if bytes_eq s (42 ∷ 42 ∷ []) then Folders else if list_any is_wild s then Wild (chars s) else Literal s
 
 -- `**/*`
 abbrev pub everything : List Part

@@ -2,6 +2,7 @@
 #![tactic(auto)]
 
 mod cover;
+mod fronts;
 mod parts;
 mod pattern;
 mod reading;

@@ -12,8 +12,8 @@ pub enum UseOf {
 pub enum Part {
     /// `**`: zero or more segments.
     Folders,
-    /// A segment of the folder that the pattern counts from.
+    /// A segment that stands for itself: one without wildcards, or one of the folder that the pattern counts from.
     Literal(Name),
-    /// A segment of the pattern's own text, by its characters.
+    /// A segment with wildcards, by its characters.
     Wild(List<char>),
 }

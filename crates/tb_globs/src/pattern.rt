@@ -3,6 +3,7 @@ ghost use Rattle.tb_globs.specs.Globs.{is_match};
 ghost use Rattle.tb_globs.specs.Patterns.{pattern_eq, pattern_partial, pattern_equiv};
 
 use crate::UseOf;
+use crate::fronts::front_of;
 use crate::parts::Part;
 use crate::reading::parts_at;
 use crate::walk::walk;
@@ -16,21 +17,25 @@ pub struct Pattern {
     base: Path,
     text: Name,
     parts: List<Part>,
+    folder: Path,
 }
 
 impl Model for Pattern {
-    ghost use Rattle.std.specs.Prelude.{◌≡◌, List, ℕ, Some};
-    ghost use Rattle.tb_globs.specs.Globs.{parts_of};
+    ghost use Rattle.std.specs.Prelude.{◌≡◌, List, ℕ};
+    ghost use Rattle.tb_globs.specs.Fronts.{AreParts};
 
     ghost Value = { List ℕ × List ℕ };
 
     ghost view = { λ p. (p.base, p.text) };
 
-    ghost invariant = { λ p. parts_of p.base p.text ≡ Some p.parts };
+    ghost invariant = { λ p. AreParts p.base p.text p.parts p.folder };
 }
 
 impl Pattern {
-    ghost use Rattle.std.specs.Prelude.{◌≡◌, IfOk, IsSome, IsErrOf, None};
+    ghost use Rattle.std.specs.Prelude.{◌≡◌, IfOk, IsSome, IsErrOf, IsTrue, List, None, ℕ};
+    ghost use Rattle.tb_globs.specs.Fronts.{folder_of, is_within};
+    ghost use Rattle.tb_globs.specs.Globs.{is_match};
+    ghost use Rattle.tb_globs.specs.declared.parts.UseOf.TheVariants.{Include};
     ghost use Rattle.tb_text.specs.Paths.{joined};
 
     /// The pattern of a text in a config of the folder `base`.
@@ -46,11 +51,21 @@ impl Pattern {
         let Ok(text) = Name::copy_of(alloc, text) else {
             return Err(PathFault::NoMemory);
         };
+        let folder = front_of(alloc, parts.as_slice())?;
         Ok(Pattern {
             base: base.clone()?,
             text,
             parts,
+            folder,
         })
+    }
+
+    /// What stands in front of the first wildcard: the folder, or the one file, where `include` looks for the pattern.
+    pub fn folder(&self) -> &Path
+        ensures is { result.now ≡ folder_of self.now }
+        ensures all { (path : List ℕ) → IsTrue (is_match self.now Include path) → IsTrue (is_within result.now path) }
+    {
+        &self.folder
     }
 }
 
@@ -69,6 +84,7 @@ impl Clone for Pattern {
             base: self.base.clone()?,
             text: self.text.clone()?,
             parts: self.parts.clone()?,
+            folder: self.folder.clone()?,
         })
     }
 }

@@ -2,6 +2,7 @@
 ghost use Rattle.std.specs.Prelude.{◌≡◌, ◌+◌, ◌<◌, ◌^◌, ◌++◌, IfOk, OnOk, map, length, fold};
 ghost use Rattle.std.specs.List.{list_any};
 ghost use Rattle.std.specs.Str.{chars};
+ghost use Rattle.tb_globs.specs.Covers.{is_wild};
 ghost use Rattle.tb_globs.specs.Globs.{parts_at, named_parts, own_part, everything, standing, kept, last_of, is_folder_name, is_mark};
 ghost use Rattle.tb_globs.specs.declared.parts.Part.TheVariants.{Literal};
 ghost use Rattle.tb_text.specs.Paths.{segments};
@@ -69,13 +70,28 @@ fn push_own(alloc: Global, parts: &mut List<Part>, segments: &[&str]) -> Result<
     Ok(())
 }
 
-fn own_part(alloc: Global, segment: &str) -> Result<Part, AllocError>
+fn own_part(alloc: Global, segment: &str) -> Result<Part, NoMemory>
     ensures { IfOk result (λ part. part ≡ own_part segment.now) }
 {
     if segment == "**" {
         return Ok(Part::Folders);
     }
-    Ok(Part::Wild(characters_of(alloc, segment)?))
+    if has_wildcard(segment.as_bytes()) {
+        return Ok(Part::Wild(characters_of(alloc, segment)?));
+    }
+    Ok(Part::Literal(Name::copy_of(alloc, segment)?))
+}
+
+fn has_wildcard(segment: &[u8]) -> bool
+    ensures { result ≡ list_any is_wild segment.now }
+{
+    segment.iter().any(|b| is_wild(*b))
+}
+
+fn is_wild(b: u8) -> bool
+    ensures { result ≡ is_wild b }
+{
+    b == b'*' || b == b'?'
 }
 
 fn characters_of(alloc: Global, segment: &str) -> Result<List<char>, AllocError>

@@ -60,6 +60,21 @@ const EXCLUDED: [Case; 9] = [
     ("a", "../b/*", "a/b/c.ts", false),
 ];
 
+/// The folder of the config, the pattern's text, and what stands in front of its first wildcard.
+const FOLDERS: [(&'static str, &'static str, &'static str); 11] = [
+    ("", "src", "src"),
+    ("", "**/*", ""),
+    ("a", "**/*", "a"),
+    ("a", "src/x/*.ts", "a/src/x"),
+    ("a", "src/x?/y/*.ts", "a/src"),
+    ("a", "src/m.ts", "a/src/m.ts"),
+    ("a", ".", "a"),
+    ("a/b", "..", "a"),
+    ("a/b", "../c", "a/c"),
+    ("a/b", "../*/c.ts", "a"),
+    ("a*", "b/*.ts", "a*/b"),
+];
+
 fn answer(alloc: Global, case: &Case, use_of: UseOf) -> Result<bool, PathFault> {
     let base = Path::read(alloc, case.0)?;
     let pattern = Pattern::read(alloc, &base, case.1)?;
@@ -91,6 +106,16 @@ fn patterns_of_exclude_match(rt: HostRuntime) -> Result<(), Fail> {
             case.1,
             case.2
         );
+    }
+    Ok(())
+}
+
+#[test]
+fn folders_stand_in_front_of_wildcards(rt: HostRuntime) -> Result<(), Fail> {
+    for (base, text, folder) in FOLDERS {
+        let base = Path::read(rt.alloc(), base)?;
+        let pattern = Pattern::read(rt.alloc(), &base, text)?;
+        assert_eq!(rt; pattern.folder().as_str(), folder, "{text}");
     }
     Ok(())
 }

@@ -1,6 +1,6 @@
 -- The configs of the settings are those that the visit finishes, each after what it references.
-use Rattle.std.proofs.Common.{◌≡◌, ℕ, zero, suc, ◌+◌, ◌<◌, Bool, true, false, List, [], ◌∷◌, ◌++◌, length, take, refl, sym, ap, subst, ◌∙◌, inl, inr, arith, append_assoc, append-nil}
-use Rattle.std.specs.Prelude.{◌⊎◌, map, slice_get, Option, Some, None}
+use Rattle.std.proofs.Common.{◌≡◌, ℕ, zero, suc, ◌<◌, List, [], ◌∷◌, ◌++◌, length, take, refl, sym, ap, subst, ◌∙◌, inl, inr, arith, append_assoc, append-nil}
+use Rattle.std.specs.Prelude.{slice_get, Some, None}
 use Rattle.std.specs.List.{flat_map}
 use Rattle.std.specs.FinMap.{get, keys}
 use Rattle.tb_text.specs.Findings.{diag_cmp}
@@ -10,7 +10,7 @@ use Rattle.tb_config.specs.Configs.{Content, Missing, Unreadable, Object, Config
 use Rattle.tb_config.specs.Faults as config
 use Rattle.tb_config.specs.Settings.{Reads, Good, Faulty, judged, setting_by_content, setting_of, chain_of, configs_of, circles_of}
 use Rattle.tb_config.specs.declared.setting.Setting.{Setting}
-use Rattle.tb_plan.specs.Orders.{Tree, Paths, Visit, begun, references_of, given_by, visited_from, visited}
+use Rattle.tb_plan.specs.Orders.{Tree, Paths, begun, references_of, given_by, visited}
 use Rattle.tb_plan.specs.Plans.{faults_in, setting_in, config_faults, composite_faults}
 use Rattle.tb_plan.proofs.Among.{is_file_or_none}
 use Rattle.tb_plan.proofs.Members.{In}

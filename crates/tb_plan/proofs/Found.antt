@@ -28,13 +28,14 @@ use Rattle.tb_plan.specs.Orders.{Tree, Paths, is_among}
 use Rattle.tb_plan.specs.Owners.{folder_at, AreAround}
 use Rattle.tb_plan.specs.declared.sources.Sources.{Sources}
 use Rattle.std.proofs.lemmas.List.{map_push}
-use Rattle.tb_plan.proofs.Members.{In, in_left, in_right, in_append, in_filter, from_filter}
+use Rattle.tb_plan.specs.Members.{HasSame}
+use Rattle.tb_plan.proofs.Members.{In, in_from, in_back, in_left, in_right, in_append, in_filter, from_filter}
 use Rattle.tb_plan.proofs.Among.{any_from, any_in, among_in, in_among, file_in, in_file}
 use Rattle.tb_plan.proofs.Sorted.{same_sorted, sorted_fold, in_fold, from_fold}
 
 -- ---- the files of a tree ascend
 
-less_so : (r : Ordering) → is_lt r ≡ true → r ≡ Less
+pub less_so : (r : Ordering) → is_lt r ≡ true → r ≡ Less
 less_so Less e = refl
 less_so Equal e = absurd (false≢true e)
 less_so Greater e = absurd (false≢true e)
@@ -55,6 +56,9 @@ is_true false t = absurd t
 pub files_sorted : (tree : Tree) → IsStrictlySortedBy bytes_cmp (keys tree)
 files_sorted tree = sorted_so (entries tree) (is_true (is_sorted bytes_cmp (entries tree)) (entries_sorted tree))
 
+pub found_sorted : (tree : Tree) (folders found : Paths) → found ≡ filter (may_be_found tree folders) (keys tree) → IsStrictlySortedBy bytes_cmp found
+found_sorted tree folders found is = subst (IsStrictlySortedBy bytes_cmp) (sym is) (IsStrictlySortedBy-filter bytes_cmp (may_be_found tree folders) (keys tree) (files_sorted tree))
+
 -- ---- tests
 
 pub and_true : (a b : Bool) → a ≡ true → b ≡ true → (a && b) ≡ true
@@ -73,14 +77,14 @@ or_second false b e = e
 
 -- ---- inputs
 
-module _ (tree : Tree) (folders : Paths) (s : Setting) (findable : Paths) (is : findable ≡ filter (may_be_found tree folders) (keys tree)) where
+module _ (tree : Tree) (folders : Paths) (s : Setting) (findable : Paths) (is : findable ≡ filter (may_be_found tree folders) (keys tree)) (found : Paths) (same : HasSame found (filter (is_included s) findable)) where
   abbrev gathered : Paths
-  gathered = filter (is_included s) findable ++ filter (λ path. is_file tree path && is_source path) (named_by s)
+  gathered = found ++ filter (λ path. is_file tree path && is_source path) (named_by s)
 
   gathered_in : (p : List ℕ) → In gathered p → In (inputs_of tree folders s) p
-  gathered_in p h = elim (in_append (filter (is_included s) findable) (filter (λ path. is_file tree path && is_source path) (named_by s)) p h) [
+  gathered_in p h = elim (in_append found (filter (λ path. is_file tree path && is_source path) (named_by s)) p h) [
     | inl a ↦
-        let i = from_filter (is_included s) findable p a in
+        let i = from_filter (is_included s) findable p (in_from (filter (is_included s) findable) p (same.into p (in_back found p a))) in
         let f = from_filter (may_be_found tree folders) (keys tree) p (subst (λ (l : Paths). In l p) is i.0) in
         in_filter (is_input tree folders s) (keys tree) p f.0 (or_second (is_named s p) (may_be_found tree folders p && is_included s p) (and_true (may_be_found tree folders p) (is_included s p) f.1 i.1))
     | inr b ↦
@@ -96,12 +100,13 @@ module _ (tree : Tree) (folders : Paths) (s : Setting) (findable : Paths) (is : 
       elim (or_cases (is_named s p) (may_be_found tree folders p && is_included s p) r.1) [
         | inl a ↦
             let both = and_both (is_among (named_by s) p) (is_source p) a in
-            in_right (filter (is_included s) findable) (filter (λ path. is_file tree path && is_source path) (named_by s)) p
+            in_right found (filter (λ path. is_file tree path && is_source path) (named_by s)) p
             (in_filter (λ path. is_file tree path && is_source path) (named_by s) p (among_in (named_by s) p both.0) (and_true (is_file tree p) (is_source p) (in_file tree p r.0) both.1))
         | inr b ↦
             let both = and_both (may_be_found tree folders p) (is_included s p) b in
-            in_left (filter (is_included s) findable) (filter (λ path. is_file tree path && is_source path) (named_by s)) p
-            (in_filter (is_included s) findable p (subst (λ (l : Paths). In l p) (sym is) (in_filter (may_be_found tree folders) (keys tree) p r.0 both.0)) both.1)
+            let there : In findable p = subst (λ (l : Paths). In l p) (sym is) (in_filter (may_be_found tree folders) (keys tree) p r.0 both.0) in
+            in_left found (filter (λ path. is_file tree path && is_source path) (named_by s)) p
+            (in_from found p (same.back p (in_back (filter (is_included s) findable) p (in_filter (is_included s) findable p there both.1))))
       ]
 
   pub gathered_is : fold (insert_key bytes_cmp) [] gathered ≡ inputs_of tree folders s

@@ -13,6 +13,7 @@ pub mod Shorter
 pub mod Found
 pub mod Loops
 pub mod Covered
+pub mod Ranges
 pub mod Seen
 pub mod Pairs
 pub mod Placed

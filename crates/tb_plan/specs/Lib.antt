@@ -2,6 +2,7 @@ pub mod Members
 pub mod Faults
 pub mod Orders
 pub mod Inputs
+pub mod Within
 pub mod Outputs
 pub mod Folders
 pub mod Limits

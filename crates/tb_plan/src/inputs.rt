@@ -1,18 +1,19 @@
 ghost use Rattle.std.specs.Prelude.{◌≡◌, ◌&&◌, ◌++◌, codes, length, option_map, IfOk, OnOk, List as Members};
-ghost use Rattle.std.specs.List.{filter, list_any};
+ghost use Rattle.std.specs.List.{filter};
+ghost use Rattle.std.specs.List.Sorted.{IsStrictlySortedBy};
 ghost use Rattle.std.specs.FinMap.{keys};
 ghost use Rattle.tb_config.specs.declared.setting.Setting.{Setting};
 ghost use Rattle.tb_face.specs.Outputs.{before_ending};
-ghost use Rattle.tb_globs.specs.Globs.{is_match};
-ghost use Rattle.tb_plan.specs.Inputs.{folders_of, inputs_of, is_beside_source, is_file, is_included, is_source, may_be_found, named_by};
+ghost use Rattle.tb_text.specs.Bytes.{bytes_cmp};
+ghost use Rattle.tb_plan.specs.Inputs.{folders_of, inputs_of, is_beside_source, is_file, is_source, may_be_found, named_by};
 ghost use Rattle.tb_plan.specs.Orders.{Paths};
 ghost use Rattle.tb_plan.specs.Owners.{AreOwners};
 
 use crate::folders::Folders;
 use crate::keys::ascending;
+use crate::within::add_included;
 use std::alloc::Global;
 use tb_config::Setting;
-use tb_globs::{Pattern, UseOf, matches};
 use tb_text::{List, NoMemory, Path, PathFault, Texts};
 
 /// The files that `include` may find: sources outside all output folders, and no `x.d.ts` beside `x.ts`.
@@ -88,45 +89,13 @@ pub fn inputs_of(
     findable: &[Path],
     setting: &Setting,
 ) -> Result<List<Path>, NoMemory>
+    requires { IsStrictlySortedBy bytes_cmp findable.now }
     ensures { IfOk result (λ inputs. (folders : Paths) → findable.now ≡ filter (may_be_found tree.now folders) (keys tree.now) → inputs ≡ inputs_of tree.now folders setting.now) }
 {
     let mut inputs = Vec::new(alloc);
-    add_included(findable, setting, &mut inputs)?;
+    add_included(alloc, findable, setting, &mut inputs)?;
     add_named(tree, named_by(setting), &mut inputs)?;
     Ok(List::from_vec(ascending(alloc, inputs)?))
-}
-
-fn add_included(
-    findable: &[Path],
-    setting: &Setting,
-    inputs: &mut Vec<Path>,
-) -> Result<(), NoMemory>
-    ensures { OnOk result (inputs.new.items ≡ inputs.old.items ++ filter (is_included setting.now) findable.now) }
-{
-    for path in findable {
-        if is_included(setting, path) {
-            inputs.push(path.clone()?)?;
-        }
-    }
-    Ok(())
-}
-
-fn is_included(setting: &Setting, path: &Path) -> bool
-    ensures { result ≡ is_included setting.now path.now }
-{
-    some_match(setting.include.as_slice(), UseOf::Include, path)
-        && !some_match(setting.exclude.as_slice(), UseOf::Exclude, path)
-}
-
-fn some_match(patterns: &[Pattern], use_of: UseOf, path: &Path) -> bool
-    ensures { result ≡ list_any (λ p. is_match p use_of path.now) patterns.now }
-{
-    for pattern in patterns {
-        if matches(pattern, use_of, path) {
-            return true;
-        }
-    }
-    false
 }
 
 fn add_named(tree: &Texts, named: &[Path], inputs: &mut Vec<Path>) -> Result<(), NoMemory>

@@ -22,6 +22,7 @@ mod sources;
 mod statuses;
 mod upstream;
 mod visit;
+mod within;
 
 pub use plans::{Plan, PlanFault, Project, make_plan};
 

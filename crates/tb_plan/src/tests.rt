@@ -10,7 +10,7 @@ type Row = (&'static str, &'static str, &'static str);
 const PLAIN: &str = "{\"compilerOptions\":{\"composite\":true,\"outDir\":\"dist\"}}";
 
 /// Each project's config, what is upstream of it, and its inputs.
-const PLANS: [Row; 4] = [
+const PLANS: [Row; 5] = [
     (
         "tsconfig.json",
         "tsconfig.json {\"files\":[],\"references\":[{\"path\":\"p\"},{\"path\":\"q\"}]}\np/tsconfig.json C\np/a.ts\nq/tsconfig.json C\nq/a.ts",
@@ -30,6 +30,11 @@ const PLANS: [Row; 4] = [
         "p/tsconfig.json out.json",
         "p/tsconfig.json {\"compilerOptions\":{\"outDir\":\"../d\",\"rootDir\":\"..\"},\"files\":[\"../named.ts\"],\"include\":[\".\"]}\nout.json {\"compilerOptions\":{\"outDir\":\"p/o\"},\"files\":[\"one.ts\"]}\nnamed.ts\none.ts\np/a.d.ts\np/b.d.ts\np/b.ts\np/o/c.ts",
         "p/tsconfig.json [] named.ts p/a.d.ts p/b.ts; out.json [] one.ts",
+    ),
+    (
+        "p/tsconfig.json",
+        "p/tsconfig.json {\"compilerOptions\":{\"outDir\":\"d\",\"rootDir\":\"..\"},\"include\":[\"src\",\"src/*\",\"src/a.ts\",\"../q/*.ts\",\"**/m.ts\"]}\np/src.ts\np/src/a.ts\np/src/x/b.ts\np/src-x/c.ts\np/src0/c.ts\np/y/m.ts\nq.ts\nq/k.ts\nq/x/k.ts",
+        "p/tsconfig.json [] p/src/a.ts p/src/x/b.ts p/y/m.ts q/k.ts",
     ),
 ];
 
@@ -213,19 +218,139 @@ fn faults_are_found_in_order(rt: HostRuntime) -> Result<(), Fail> {
     Ok(())
 }
 
+// What roots give over files, where of a plan only the projects are counted.
+fn counted(alloc: Global, tree: &Texts, roots: &str) -> Result<String, Fail> {
+    let roots = roots_of(alloc, roots)?;
+    match make_plan(alloc, tree, roots.as_slice()) {
+        Ok(plan) => Ok(format!(in alloc; "{} projects", plan.projects.len())?),
+        Err(PlanFault::Faults { diags, status }) => shown_faults(alloc, diags.as_slice(), &status),
+        Err(PlanFault::NoMemory) => Ok(String::from_str(alloc, "out of memory")?),
+    }
+}
+
+/// A solution that references one project.
+const OF_ONE: &str =
+    "tsconfig.json {\"files\":[],\"references\":[{\"path\":\"p\"}]}\np/tsconfig.json C";
+
 // What a project gives whose one input has so many bytes.
 fn told_of_bytes(alloc: Global, bytes: usize) -> Result<String, Fail> {
-    let mut tree = tree_of(alloc, "p/tsconfig.json C")?;
+    let mut tree = tree_of(alloc, OF_ONE)?;
     let text = Text::from_vec(vec![in alloc; 32; bytes]?);
     tree.insert(Path::read(alloc, "p/a.ts")?, text)?;
-    told(alloc, &tree, "p/tsconfig.json")
+    counted(alloc, &tree, "tsconfig.json")
 }
 
 #[test]
 fn an_input_has_so_many_bytes_at_most(rt: HostRuntime) -> Result<(), Fail> {
     let whole = told_of_bytes(rt.alloc(), 4_194_304)?;
-    assert_eq!(rt; whole.as_str(), "p/tsconfig.json [] p/a.ts");
+    assert_eq!(rt; whole.as_str(), "2 projects");
     let large = told_of_bytes(rt.alloc(), 4_194_305)?;
     assert_eq!(rt; large.as_str(), "skipped: p/tsconfig.json TB5012 bytes");
+    Ok(())
+}
+
+// What a project gives whose config has so many bytes, blanks at its end.
+fn told_of_config(alloc: Global, bytes: usize) -> Result<String, Fail> {
+    let mut tree = tree_of(alloc, "p/a.ts")?;
+    let mut text = vec![in alloc; 32; bytes]?;
+    for (at, byte) in PLAIN.as_bytes().iter().enumerate() {
+        if at < text.len() {
+            text[at] = *byte;
+        }
+    }
+    tree.insert(Path::read(alloc, "p/tsconfig.json")?, Text::from_vec(text))?;
+    counted(alloc, &tree, "p/tsconfig.json")
+}
+
+#[test]
+fn a_config_has_so_many_bytes_at_most(rt: HostRuntime) -> Result<(), Fail> {
+    let whole = told_of_config(rt.alloc(), 4_194_304)?;
+    assert_eq!(rt; whole.as_str(), "1 projects");
+    let large = told_of_config(rt.alloc(), 4_194_305)?;
+    assert_eq!(rt; large.as_str(), "skipped: p/tsconfig.json TB5012 bytes");
+    Ok(())
+}
+
+// What a solution and the projects that it references give, so many in all.
+fn told_of_projects(alloc: Global, count: usize) -> Result<String, Fail> {
+    let mut tree = Texts::new(alloc);
+    let mut root = String::from_str(alloc, "tsconfig.json {\"files\":[],\"references\":[")?;
+    for number in 1..count {
+        let project = format!(in alloc; "p{number}/tsconfig.json")?;
+        if number > 1 {
+            root.push_str(",")?;
+        }
+        root.push_str("{\"path\":\"")?;
+        root.push_str(project.as_str())?;
+        root.push_str("\"}")?;
+        add_file(alloc, format!(in alloc; "{project} C")?.as_str(), &mut tree)?;
+        add_file(
+            alloc,
+            format!(in alloc; "p{number}/a.ts")?.as_str(),
+            &mut tree,
+        )?;
+    }
+    root.push_str("]}")?;
+    add_file(alloc, root.as_str(), &mut tree)?;
+    counted(alloc, &tree, "tsconfig.json")
+}
+
+#[test]
+fn a_plan_has_so_many_projects_at_most(rt: HostRuntime) -> Result<(), Fail> {
+    let whole = told_of_projects(rt.alloc(), 512)?;
+    assert_eq!(rt; whole.as_str(), "512 projects");
+    let large = told_of_projects(rt.alloc(), 513)?;
+    assert_eq!(rt; large.as_str(), "skipped: tsconfig.json TB5012 projects");
+    Ok(())
+}
+
+// What a project gives whose config has so many `extends` on its chain.
+fn told_of_chain(alloc: Global, count: usize) -> Result<String, Fail> {
+    let mut tree = tree_of(alloc, "p/a.ts")?;
+    let mut name = String::from_str(alloc, "p/tsconfig.json")?;
+    for number in 0..count {
+        let file = format!(in alloc; "{name} {{\"extends\":\"./b{number}\"}}")?;
+        add_file(alloc, file.as_str(), &mut tree)?;
+        name = format!(in alloc; "p/b{number}.json")?;
+    }
+    add_file(alloc, format!(in alloc; "{name} C")?.as_str(), &mut tree)?;
+    counted(alloc, &tree, "p/tsconfig.json")
+}
+
+#[test]
+fn a_chain_has_so_many_extends_at_most(rt: HostRuntime) -> Result<(), Fail> {
+    let whole = told_of_chain(rt.alloc(), 32)?;
+    assert_eq!(rt; whole.as_str(), "1 projects");
+    let long = told_of_chain(rt.alloc(), 33)?;
+    assert_eq!(rt; long.as_str(), "skipped: p/tsconfig.json TB5012 extends");
+    Ok(())
+}
+
+// What a solution gives whose one project has so many inputs, of so many bytes each.
+fn told_of_inputs(alloc: Global, count: usize, bytes: usize) -> Result<String, Fail> {
+    let mut tree = tree_of(alloc, OF_ONE)?;
+    for number in 0..count {
+        let path = format!(in alloc; "p/{number}.ts")?;
+        let text = Text::from_vec(vec![in alloc; 32; bytes]?);
+        tree.insert(Path::read(alloc, path.as_str())?, text)?;
+    }
+    counted(alloc, &tree, "tsconfig.json")
+}
+
+#[test]
+fn a_plan_has_so_many_inputs_at_most(rt: HostRuntime) -> Result<(), Fail> {
+    let whole = told_of_inputs(rt.alloc(), 20_000, 0)?;
+    assert_eq!(rt; whole.as_str(), "2 projects");
+    let large = told_of_inputs(rt.alloc(), 20_001, 0)?;
+    assert_eq!(rt; large.as_str(), "skipped: tsconfig.json TB5012 files");
+    Ok(())
+}
+
+#[test]
+fn all_inputs_have_so_many_bytes_at_most(rt: HostRuntime) -> Result<(), Fail> {
+    let whole = told_of_inputs(rt.alloc(), 64, 4_194_304)?;
+    assert_eq!(rt; whole.as_str(), "2 projects");
+    let large = told_of_inputs(rt.alloc(), 65, 4_194_304)?;
+    assert_eq!(rt; large.as_str(), "skipped: tsconfig.json TB5012 bytes");
     Ok(())
 }

@@ -1,4 +1,4 @@
-use Rattle.std.proofs.Common.{◌-◌, false, length, arith}
+use Rattle.std.proofs.Common.{◌-◌, length, arith}
 use Rattle.tb_globs.proofs.Ends.{end_row}
 use Rattle.tb_globs.proofs.walk.answer_end.Goals as goal
 

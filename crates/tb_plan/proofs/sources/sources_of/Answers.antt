@@ -1,7 +1,12 @@
 use Rattle.std.proofs.Common.{◌∙◌}
 use Rattle.tb_plan.specs.Inputs.{folders_of, inputs_of}
-use Rattle.tb_plan.proofs.Found.{source_step}
+use Rattle.tb_plan.proofs.Found.{found_sorted, source_step}
 use Rattle.tb_plan.proofs.sources.sources_of.Goals as goal
+
+pub inputs_of-requires : goal.inputs_of-requires
+inputs_of-requires c =
+    let found = c.in_ok-findable.ensures c.args.settings.items c.requires in
+    found_sorted c.args.tree.now (folders_of c.args.settings.items) c.as_slice.result.now (c.as_slice.ensures.value ∙ found)
 
 pub loop-setting-preserved : goal.loop-setting-preserved
 loop-setting-preserved c =
