@@ -1,9 +1,14 @@
 mod Adding
-mod Beside
+mod Building
 mod Ending
+mod Members
 mod OneBuild
 mod Outputs
+mod Playing
+mod Readied
 mod Reading
+mod Readying
+mod Reporting
 mod Settling
 mod Writing
 mod Written

@@ -1,16 +1,18 @@
--- Texts have one clean build.
-use Rattle.std.proofs.Common.{◌≡◌, ◌≤◌, ◌+◌, ℕ, Bool, cond, not, List, [], ◌∷◌, ◌++◌, length, map, zero-add, refl, sym, ap, ◌∙◌, subst, codes, arith}
+-- Texts have one clean build from these roots.
+use Rattle.std.proofs.Common.{◌≡◌, ℕ, List, [], ◌∷◌, refl, sym, ap, ◌∙◌, subst}
 use Rattle.std.specs.Prelude.{Option, Some, None}
 use Rattle.std.specs.List.{AllByRecursion}
-use Rattle.std.proofs.lemmas.Bool.{ne_eqb}
-use Rattle.std.proofs.lemmas.List.{append_cancel_right, length-map}
+use Rattle.std.proofs.lemmas.List.Elements.{recursion_from_All}
+use Rattle.tb_text.specs.declared.findings.Diag.{Diag}
+use Rattle.tb_text.specs.declared.statuses.Status.{Status}
 use Rattle.tb_parse_file.specs.Files.{ReadsFile}
 use Rattle.tb_parse_file.proofs.OneFile.{one_file}
-use Rattle.tb_session.specs.Builds.{Clean, IsClean, build_of, checks_of, builds_of}
+use Rattle.tb_plan.specs.Plans.{Planned, Sound, Faulted}
+use Rattle.tb_plan.specs.declared.plans.Plan.{Plan}
+use Rattle.tb_plan.specs.declared.plans.Project.{Project}
+use Rattle.tb_session.specs.Builds.{Clean, IsClean, build_of, faulted_of}
 use Rattle.tb_session.specs.Generations.{Tree}
-use Rattle.tb_session.specs.Plans.{inputs}
-use Rattle.tb_session.specs.Sources.{Source, path_of, IsSource, AreSources, IsProject}
-use Rattle.tb_session.proofs.Reading.{as_many}
+use Rattle.tb_session.specs.Sources.{Source, Build, IsSource, AreSources, HasSources, IsBuild, projects_in}
 
 some_or : List ℕ → Option (List ℕ) → List ℕ
 some_or d None = d
@@ -18,9 +20,10 @@ some_or d (Some x) = x
 
 -- ---- an input is one source
 
-module _ (texts : Tree) (path : List ℕ) (a b : Source) (p : IsSource texts path a) (q : IsSource texts path b) where
+module _ (texts : Tree) (root path : List ℕ) (a b : Source) (p : IsSource texts root path a) (q : IsSource texts root path b) where
   stems : a.stem ≡ b.stem
-  stems = append_cancel_right a.stem b.stem (codes ".ts") (sym p.named ∙ q.named)
+  unfolding some_or
+  stems = ap (some_or []) (sym p.stem ∙ q.stem)
 
   texts_same : a.text ≡ b.text
   unfolding some_or
@@ -30,41 +33,65 @@ module _ (texts : Tree) (path : List ℕ) (a b : Source) (p : IsSource texts pat
   files = one_file p.has_file.reads.reads (subst (λ (t : List ℕ). ReadsFile t b.file) (sym texts_same) q.has_file.reads.reads)
 
   pub one_source : a ≡ b
-  one_source = λ i. record { stem = stems i; text = texts_same i; file = files i }
+  one_source = λ i. record { path = (p.at ∙ sym q.at) i; stem = stems i; text = texts_same i; file = files i }
 
--- this is the source at its own path
-abbrev pub IsAtPath : Tree → Source → Type 0
-IsAtPath texts source = IsSource texts (path_of source) source
+pub one_list : (texts : Tree) (root : List ℕ) (paths : List (List ℕ)) (these those : List Source) → AreSources texts root paths these → AreSources texts root paths those → these ≡ those
+one_list texts root [] [] [] p q = refl
+one_list texts root [] [] (b ∷ those) p q = absurd q
+one_list texts root [] (a ∷ these) those p q = absurd p
+one_list texts root (path ∷ paths) [] those p q = absurd p
+one_list texts root (path ∷ paths) (a ∷ these) [] p q = absurd q
+one_list texts root (path ∷ paths) (a ∷ these) (b ∷ those) p q = λ i. one_source texts root path a b p.0 q.0 i ∷ one_list texts root paths these those p.1 q.1 i
 
--- so sources with one stem are one
-pub same_source : (texts : Tree) (a b : Source) → IsAtPath texts a → IsAtPath texts b → a.stem ≡ b.stem → a ≡ b
-same_source texts a b p q e = one_source texts (path_of a) a b p (subst (λ (s : List ℕ). IsSource texts (s ++ codes ".ts") b) (sym e) q)
+-- ---- a project is one build
 
-pub all_at_paths : (texts : Tree) (paths : List (List ℕ)) (sources : List Source) → AreSources texts paths sources → AllByRecursion (IsAtPath texts) sources
-all_at_paths texts [] [] are = tt
-all_at_paths texts [] (s ∷ sources) are = absurd are
-all_at_paths texts (p ∷ paths) [] are = absurd are
-all_at_paths texts (p ∷ paths) (s ∷ sources) are = (subst (λ (q : List ℕ). IsSource texts q s) are.0.named are.0, all_at_paths texts paths sources are.1)
+same_sources : (texts : Tree) (project : Project) (folder : Option (List ℕ)) (these those : List Source) → HasSources texts project folder these → HasSources texts project folder those → these ≡ those
+same_sources texts project None these those p q = p ∙ sym q
+same_sources texts project (Some folder) these those p q = one_list texts project.setting.root project.inputs these those p q
 
--- ---- one build
+same_build : (texts : Tree) (a b : Build) → a.project ≡ b.project → IsBuild texts a → IsBuild texts b → a ≡ b
+same_build texts a b e p q =
+    let there : HasSources texts b.project b.project.setting.folder a.sources = subst (λ (x : Project). HasSources texts x x.setting.folder a.sources) e p in
+    λ i. record { project = e i; sources = same_sources texts b.project b.project.setting.folder a.sources b.sources there q i }
 
-one_list : (texts : Tree) (paths : List (List ℕ)) (these those : List Source) → AreSources texts paths these → AreSources texts paths those → these ≡ those
-one_list texts [] [] [] p q = refl
-one_list texts [] [] (b ∷ those) p q = absurd q
-one_list texts [] (a ∷ these) those p q = absurd p
-one_list texts (path ∷ paths) [] those p q = absurd p
-one_list texts (path ∷ paths) (a ∷ these) [] p q = absurd q
-one_list texts (path ∷ paths) (a ∷ these) (b ∷ those) p q = λ i. one_source texts path a b p.0 q.0 i ∷ one_list texts paths these those p.1 q.1 i
+head_or : Project → List Project → Project
+head_or p [] = p
+head_or p (q ∷ qs) = q
 
-pub one_build : (texts : Tree) (sources : List Source) (clean : Clean) → IsProject texts sources → IsClean texts clean → clean ≡ build_of sources
-one_build texts sources clean p is = is.build ∙ ap build_of (one_list texts (inputs texts) is.sources sources is.project.are_sources p.are_sources)
+tail_of : List Project → List Project
+tail_of [] = []
+tail_of (q ∷ qs) = qs
 
--- ---- what is counted
+same_builds : (texts : Tree) (these those : List Build) → projects_in these ≡ projects_in those → AllByRecursion (IsBuild texts) these → AllByRecursion (IsBuild texts) those → these ≡ those
+unfolding head_or tail_of
+same_builds texts [] [] e p q = refl
+same_builds texts [] (b ∷ those) e p q = absurd (cc)
+same_builds texts (a ∷ these) [] e p q = absurd (cc)
+same_builds texts (a ∷ these) (b ∷ those) e p q =
+    λ i. same_build texts a b (ap (head_or a.project) e) p.0 q.0 i ∷ same_builds texts these those (ap tail_of e) p.1 q.1 i
 
-pub checks_all : (sources : List Source) → checks_of (build_of sources) ≡ length sources
-checks_all sources = zero-add (length (map path_of sources)) ∙ length-map sources path_of
+-- ---- one clean build
 
-pub builds_one : (texts : Tree) (sources : List Source) → IsProject texts sources → builds_of (build_of sources) ≡ 1
-builds_one texts sources p =
-    let some : 1 ≤ length (map path_of sources) = omega (arith, p.has_inputs.some, as_many (IsSource texts) (inputs texts) sources p.are_sources, length-map sources path_of) in
-    ap (λ (b : Bool). 0 + cond (not b) 1 0) (ne_eqb (length (map path_of sources)) 0 (λ e. absurd (omega (arith, some, e))))
+projects_or : Planned → List Project
+projects_or (Sound plan) = plan.projects
+projects_or (Faulted diags status) = []
+
+diags_or : Planned → List Diag
+diags_or (Sound plan) = []
+diags_or (Faulted diags status) = diags
+
+status_or : Status → Planned → Status
+status_or s (Sound plan) = s
+status_or s (Faulted diags status) = status
+
+not_both : (plan : Plan) (diags : List Diag) (status : Status) → Sound plan ≡ Faulted diags status → ⊥
+not_both plan diags status e = cc
+
+pub one_build : (texts : Tree) (roots : List (List ℕ)) (a b : Clean) → IsClean texts roots a → IsClean texts roots b → a ≡ b
+unfolding projects_or diags_or status_or
+one_build texts roots a b (IsClean.built these e p) (IsClean.built those f q) =
+    ap build_of (same_builds texts these those (ap projects_or (sym e ∙ f)) (recursion_from_All (IsBuild texts) these p) (recursion_from_All (IsBuild texts) those q))
+one_build texts roots a b (IsClean.built these e p) (IsClean.faulted diags status f) = absurd (not_both _ diags status (sym e ∙ f))
+one_build texts roots a b (IsClean.faulted diags status e) (IsClean.built those f q) = absurd (not_both _ diags status (sym f ∙ e))
+one_build texts roots a b (IsClean.faulted diags status e) (IsClean.faulted more other f) =
+    λ i. faulted_of (ap diags_or (sym e ∙ f) i) (ap (status_or status) (sym e ∙ f) i)

@@ -1,27 +1,28 @@
 -- The headline from how a run ended.
-use Rattle.std.proofs.Common.{◌≡◌, ℕ, ◌<◌, Bool, true, false, cond, List, [], ◌∷◌, ◌++◌, length, take, refl, sym, ap, ◌∙◌, subst, arith, IsTrue, inl, inr}
+use Rattle.std.proofs.Common.{◌≡◌, ℕ, ◌<◌, Bool, true, false, List, [], ◌∷◌, ◌++◌, take, refl, sym, ap, ◌∙◌, subst, arith, IsTrue, inl, inr}
 use Rattle.std.specs.Prelude.{Option, Some, None, Contains, slice_index_or, zero, suc}
 use Rattle.std.specs.List.{AllByRecursion}
 use Rattle.std.specs.List.Sorted.{IsStrictlyIncreasing}
 use Rattle.std.proofs.lemmas.List.{append-nil}
-use Rattle.tb_text.specs.declared.statuses.Status.{Status}
 use Rattle.tb_text.specs.declared.statuses.Status.TheVariants as status
+use Rattle.tb_text.specs.declared.statuses.Which.{Which}
+use Rattle.tb_text.specs.declared.statuses.Which.TheVariants.{Disk, Sink}
 use Rattle.tb_outside.specs.Causes.{Rose}
 use Rattle.tb_outside.specs.Disk.{Files, read_after_all}
-use Rattle.tb_session.specs.Builds.{Clean, IsClean, build_of, checks_of, builds_of}
-use Rattle.tb_session.specs.Commands.{Command, plain_build, command_of, is_build_word}
+use Rattle.tb_plan.specs.Plans.{plan_of}
+use Rattle.tb_session.specs.Blamed.{Blamed}
+use Rattle.tb_session.specs.Builds.{Clean, IsClean, IsNoOutput, checks_of, builds_of}
 use Rattle.tb_session.specs.Ends.{IsSettled}
 use Rattle.tb_session.specs.Generations.{Tree, opening}
 use Rattle.tb_session.specs.Headline.{Run, Headline, AreReports, IsTail, HasOutputs, NotServed, texts_of, report_of}
-use Rattle.tb_session.specs.Reports.{status_of}
-use Rattle.tb_session.specs.Publishes.{Answer, Publishes, Seen}
-use Rattle.tb_session.specs.Publishes as Published
+use Rattle.tb_session.specs.Plans.{IsOutside}
+use Rattle.tb_session.specs.Publishes.{Answer, Publishes, Seen, steps_of}
 use Rattle.tb_session.specs.Ready.{IsReady}
+use Rattle.tb_session.specs.Reports.{status_of}
 use Rattle.tb_session.specs.declared.publishes.Publication.{Publication}
-use Rattle.tb_session.proofs.OneBuild.{one_build, checks_all, builds_one}
-use Rattle.tb_session.proofs.Written.{outputs_read}
-use Rattle.tb_text.specs.declared.statuses.Which.{Which}
-use Rattle.tb_text.specs.declared.statuses.Which.TheVariants.{Disk, Sink}
+use Rattle.tb_session.proofs.Ending.{unsettled_not_built, unsettled_outside}
+use Rattle.tb_session.proofs.OneBuild.{one_build}
+use Rattle.tb_session.proofs.Readied.{is_clean, settles, all_read, outside, untouched, blamed, failed_elsewhere}
 
 -- files that read alike have the same outputs
 pub outputs_on : (old new : Files) (outputs : List (List ℕ × List ℕ)) → ((path : List ℕ) → new path ≡ old path) → AllByRecursion (λ output. old output.0 ≡ Some output.1) outputs → AllByRecursion (λ output. new output.0 ≡ Some output.1) outputs
@@ -68,28 +69,32 @@ stopped alone disk_tells feed_tells sink_tells run settled printed ends = record
 
 -- ---- a run that builds
 
-is_settled : (s : Status) → s ≡ status.Clean → IsSettled s
-is_settled s e = subst IsSettled (sym e) (omega arith)
+-- the same without `--watch`
+abbrev pub once : Run → Run
+once r = record r { command = record r.command { watch = false } }
 
-module _ (texts : Tree) (p : Publication) (ready : IsReady texts p) where
-  pub is_clean : IsClean texts (build_of ready.sources)
-  is_clean = record { sources = ready.sources; project = ready.project; build = refl }
+module _ (texts : Tree) (roots : List (List ℕ)) (verbose : Bool) (p : Publication) (ready : IsReady texts roots verbose p) where
+  pub served : NotServed texts roots → ⊥
+  served none = none ready.clean (is_clean texts roots ready.clean p.scripts ready.writes)
 
-  pub served : NotServed texts → ⊥
-  served none = none (build_of ready.sources) is_clean
+  pub publication_settles : IsSettled p.status
+  publication_settles = subst IsSettled (sym ready.status) (settles texts roots ready.clean p.scripts ready.writes)
 
-module _ (alone disk_tells feed_tells sink_tells : Bool) (r : Run) (p : Publication) (ready : IsReady (opening r.tree) p) where
-  pub all_done : r.settled ≡ 0 ∷ [] → r.status ≡ status.Clean → r.checked ≡ length ready.sources → r.built ≡ 1
-      → (IsTrue disk_tells → HasOutputs r.files (build_of ready.sources))
+module _ (alone disk_tells feed_tells sink_tells : Bool) (r : Run) (p : Publication) (ready : IsReady (opening r.tree) r.command.roots r.command.verbose p) where
+  all_done : r.settled ≡ 0 ∷ [] → r.status ≡ p.status → r.checked ≡ p.checked → r.built ≡ p.built
+      → (IsTrue disk_tells → HasOutputs r.files ready.clean)
       → (IsTrue sink_tells → r.printed_last ≡ r.printed ++ p.report) → (IsTrue feed_tells → r.turns_left ≡ r.turns)
-      → Headline alone disk_tells feed_tells sink_tells (record r { command = plain_build })
+      → Headline alone disk_tells feed_tells sink_tells (once r)
   all_done settled ended checked built has printed left =
-      let run : Run = record r { command = plain_build } in
-      let made : Clean = build_of ready.sources in
+      let run : Run = once r in
+      let texts : Tree = opening r.tree in
+      let roots : List (List ℕ) = r.command.roots in
+      let made : Clean = ready.clean in
       let report : List ℕ = report_of run 0 made in
-      let is = is_clean (opening r.tree) p ready in
-      let same : (clean : Clean) → IsClean (opening r.tree) clean → clean ≡ made = λ clean c_is. one_build (opening r.tree) ready.sources clean ready.project c_is in
+      let is : IsClean texts roots made = is_clean texts roots made p.scripts ready.writes in
+      let same : (clean : Clean) → IsClean texts roots clean → clean ≡ made = λ clean c_is. one_build texts roots clean made c_is is in
       let zero_settled : (g : ℕ) → Contains r.settled g → g ≡ 0 = λ g h. only_zero g (subst (λ (gs : List ℕ). Contains gs g) settled h) in
+      let done : IsSettled r.status = subst IsSettled (sym ended) (publication_settles texts roots r.command.verbose p ready) in
       record {
         diagnostics = λ heard. record {
           reports = report ++ [];
@@ -98,30 +103,27 @@ module _ (alone disk_tells feed_tells sink_tells : Bool) (r : Run) (p : Publicat
           are_reports = subst (λ (gs : List ℕ). AreReports run gs (report ++ [])) (sym settled) (AreReports.more 0 [] [] made is AreReports.none);
           is_tail = IsTail.nothing;
         };
-        bytes = λ told done c c_is. subst (λ (x : Clean). HasOutputs r.files x) (sym (same c c_is)) (has told);
-        clean = λ g h. (made, subst (λ (n : ℕ). IsClean (texts_of run n) made) (sym (zero_settled g h)) is);
+        bytes = λ told yes c c_is. subst (λ (x : Clean). HasOutputs r.files x) (sym (same c c_is)) (has told);
+        clean = λ g h. (made, subst (λ (n : ℕ). IsClean (texts_of run n) roots made) (sym (zero_settled g h)) is);
         ascending = subst IsStrictlyIncreasing (sym settled) (λ k lt. absurd (omega (arith, lt)));
         due = λ g h. inr (zero_settled g h);
-        all = λ told done g due. elim due [
+        all = λ told yes g due. elim due [
           | inl q ↦ absurd (none_in g q)
           | inr e ↦ subst (λ (n : ℕ). Contains r.settled n) (sym e) (subst (λ (gs : List ℕ). Contains gs 0) (sym settled) zero_in)
         ];
-        once = λ watch no. absurd (no (is_settled r.status ended));
-        left = λ told done. left told;
-        settles = λ done. ([], settled);
-        status = λ done c c_is. ended ∙ sym (ap status_of (same c c_is));
-        sums = λ done c c_is. (
-          checked ∙ sym (checks_all ready.sources) ∙ sym (ap checks_of (same c c_is)),
-          built ∙ sym (builds_one (opening r.tree) ready.sources ready.project) ∙ sym (ap builds_of (same c c_is)),
-        );
+        once = λ watch no. absurd (no done);
+        left = λ told yes. left told;
+        settles = λ yes. ([], settled);
+        status = λ yes c c_is. ended ∙ ready.status ∙ sym (ap status_of (same c c_is));
+        sums = λ yes c c_is. (checked ∙ ready.checked ∙ sym (ap checks_of (same c c_is)), built ∙ ready.built ∙ sym (ap builds_of (same c c_is)));
       }
 
-  pub cut_short : r.settled ≡ [] → (IsSettled r.status → ⊥) → Rose r.before.sink r.after.sink
-      → (IsTrue sink_tells → (n : ℕ) × (r.printed_last ≡ r.printed ++ take n p.report)) → Headline alone disk_tells feed_tells sink_tells (record r { command = plain_build })
+  cut_short : r.settled ≡ [] → (IsSettled r.status → ⊥) → Rose r.before.sink r.after.sink
+      → (IsTrue sink_tells → (n : ℕ) × (r.printed_last ≡ r.printed ++ take n p.report)) → Headline alone disk_tells feed_tells sink_tells (once r)
   cut_short settled ends rose printed =
-      let run : Run = record r { command = plain_build } in
-      let made : Clean = build_of ready.sources in
-      let is = is_clean (opening r.tree) p ready in
+      let run : Run = once r in
+      let made : Clean = ready.clean in
+      let is : IsClean (opening r.tree) r.command.roots made = is_clean (opening r.tree) r.command.roots made p.scripts ready.writes in
       let none : (g : ℕ) → Contains r.settled g → ⊥ = λ g h. none_in g (subst (λ (gs : List ℕ). Contains gs g) settled h) in
       record {
         diagnostics = λ heard. record {
@@ -145,46 +147,80 @@ module _ (alone disk_tells feed_tells sink_tells : Bool) (r : Run) (p : Publicat
 
 -- ---- what was published
 
-not_outside : (which : Which) (project : Option (List ℕ)) → IsSettled (status.Outside which project) → ⊥
-not_outside which project le = omega (arith, le)
-
-module _ (alone disk_tells sink_tells feed_tells : Bool) (r : Run) (p : Publication) (ready : IsReady (opening r.tree) p)
+module _ (alone disk_tells sink_tells feed_tells : Bool) (r : Run) (p : Publication) (ready : IsReady (opening r.tree) r.command.roots r.command.verbose p)
     (old_files : Files) (left : r.turns_left ≡ r.turns) where
-  pub published : Publishes disk_tells sink_tells (record { steps = p.steps; report = p.report; config = p.config; checked = p.checked })
+  at_once : Publishes disk_tells sink_tells p
       (record { files = old_files; printed = r.printed; disk_count = r.before.disk; sink_count = r.before.sink })
       (record { files = r.files; printed = r.printed_last; disk_count = r.after.disk; sink_count = r.after.sink })
       (record { status = r.status; settled = r.settled; checked = r.checked; built = r.built })
-      → Headline alone disk_tells feed_tells sink_tells (record r { command = plain_build })
-  published by = elim by [
-    | inl done ↦ all_done alone disk_tells feed_tells sink_tells r p ready (ap (λ (a : Answer). a.settled) done.ended) (ap (λ (a : Answer). a.status) done.ended)
-        (ap (λ (a : Answer). a.checked) done.ended ∙ ready.checked) (ap (λ (a : Answer). a.built) done.ended)
-        (λ told. outputs_on (read_after_all p.steps old_files) r.files (build_of ready.sources).outputs (done.files told)
-        (outputs_read (opening r.tree) ready.sources ready.project p.steps ready.script old_files))
+      → Headline alone disk_tells feed_tells sink_tells (once r)
+  at_once by = elim by [
+    | inl done ↦ all_done alone disk_tells feed_tells sink_tells r p ready (ap (λ (a : Answer). a.settled) done.ended ∙ ready.settled) (ap (λ (a : Answer). a.status) done.ended)
+        (ap (λ (a : Answer). a.checked) done.ended) (ap (λ (a : Answer). a.built) done.ended)
+        (λ told. outputs_on (read_after_all (steps_of p.scripts) old_files) r.files ready.clean.outputs (done.files told)
+        (all_read (opening r.tree) r.command.roots ready.clean p.scripts ready.writes old_files))
         done.printed (λ told. left)
     | inr other ↦ elim other [
-      | inl disk ↦ stopped alone disk_tells feed_tells sink_tells (record r { command = plain_build }) (ap (λ (a : Answer). a.settled) disk.ended) disk.printed
-          (λ is. not_outside Disk (Some p.config) (subst IsSettled (ap (λ (a : Answer). a.status) disk.ended) is))
+      | inl disk ↦ stopped alone disk_tells feed_tells sink_tells (once r) (ap (λ (a : Answer). a.settled) disk.ended) disk.printed
+          (unsettled_outside r.status Disk (Some disk.config) (ap (λ (a : Answer). a.status) disk.ended))
       | inr sink ↦ cut_short alone disk_tells feed_tells sink_tells r p ready (ap (λ (a : Answer). a.settled) sink.ended)
-          (λ is. not_outside Sink None (subst IsSettled (ap (λ (a : Answer). a.status) sink.ended) is)) sink.sink_count sink.printed
+          (unsettled_outside r.status Sink None (ap (λ (a : Answer). a.status) sink.ended)) sink.sink_count sink.printed
     ]
   ]
 
--- ---- the words
+  pub published : r.command.watch ≡ false → Publishes disk_tells sink_tells p
+      (record { files = old_files; printed = r.printed; disk_count = r.before.disk; sink_count = r.before.sink })
+      (record { files = r.files; printed = r.printed_last; disk_count = r.after.disk; sink_count = r.after.sink })
+      (record { status = r.status; settled = r.settled; checked = r.checked; built = r.built })
+      → Headline alone disk_tells feed_tells sink_tells r
+  published watch by = subst (λ (w : Bool). Headline alone disk_tells feed_tells sink_tells (record r { command = record r.command { watch = w } })) (sym watch) (at_once by)
 
-command_or : Command → Option Command → Command
-command_or c None = c
-command_or c (Some d) = d
+module _ (texts : Tree) (roots : List (List ℕ)) (verbose disk_tells sink_tells : Bool) (p : Publication) (ready : IsReady texts roots verbose p) (old new : Seen) (answer : Answer) (by : Publishes disk_tells sink_tells p old new answer) where
+  -- what is settled where the run does not settle
+  pub unsettled : (IsSettled answer.status → ⊥) → answer.settled ≡ []
+  unsettled ends = elim by [
+    | inl done ↦ absurd (ends (subst IsSettled (sym (ap (λ (a : Answer). a.status) done.ended)) (publication_settles texts roots verbose p ready)))
+    | inr other ↦ elim other [
+      | inl disk ↦ ap (λ (a : Answer). a.settled) disk.ended
+      | inr sink ↦ ap (λ (a : Answer). a.settled) sink.ended
+    ]
+  ]
 
-one_word : (b : Bool) (command : Command) → cond b (Some plain_build) None ≡ Some command → command ≡ plain_build
-unfolding command_or
-one_word true command e = sym (ap (command_or plain_build) e)
-one_word false command e = cc
+  -- where nothing is written
+  kept_here : IsTrue disk_tells → (path : List ℕ) → IsNoOutput ready.clean path → new.files path ≡ old.files path
+  kept_here told path apart = elim by [
+    | inl done ↦ done.files told path ∙ untouched texts roots ready.clean p.scripts ready.writes old.files path apart
+    | inr other ↦ elim other [
+      | inl disk ↦ failed_elsewhere texts roots ready.clean p.scripts ready.writes disk_tells disk.config old.files new.files told disk.fails path apart
+      | inr sink ↦ sink.files told path ∙ untouched texts roots ready.clean p.scripts ready.writes old.files path apart
+    ]
+  ]
 
-pub only_plain : (words : List (List ℕ)) (command : Command) → command_of words ≡ Some command → command ≡ plain_build
-unfolding command_or
-only_plain [] command e = sym (ap (command_or plain_build) e)
-only_plain (word ∷ []) command e = one_word (is_build_word word) command e
-only_plain (word ∷ next ∷ rest) command e = cc
+  -- at all paths but those of outputs
+  pub kept : IsTrue disk_tells → (clean : Clean) → IsClean texts roots clean → (path : List ℕ) → IsNoOutput clean path → new.files path ≡ old.files path
+  kept told clean is path apart =
+      kept_here told path (subst (λ (made : Clean). IsNoOutput made path) (one_build texts roots clean ready.clean is (is_clean texts roots ready.clean p.scripts ready.writes)) apart)
+
+  -- outside all output folders
+  pub nothing_else : IsTrue disk_tells → (path : List ℕ) → IsOutside (plan_of texts roots) path → new.files path ≡ old.files path
+  nothing_else told path out = kept_here told path (outside texts roots ready.clean p.scripts ready.writes path out)
+
+  -- the project that is named
+  pub names : IsTrue disk_tells → (config : List ℕ) → answer.status ≡ status.Outside Disk (Some config) → Blamed texts roots config old.files new.files
+  names told config e = elim by [
+    | inl done ↦ absurd (unsettled_outside answer.status Disk (Some config) e (subst IsSettled (sym (ap (λ (a : Answer). a.status) done.ended)) (publication_settles texts roots verbose p ready)))
+    | inr other ↦ elim other [
+      | inl disk ↦ subst (λ (c : List ℕ). Blamed texts roots c old.files new.files) (one_config disk.config config (sym (ap (λ (a : Answer). a.status) disk.ended) ∙ e))
+          (blamed texts roots ready.clean p.scripts ready.writes disk_tells disk.config old.files new.files told disk.fails)
+      | inr sink ↦ absurd (no_disk config (sym (ap (λ (a : Answer). a.status) sink.ended) ∙ e))
+    ]
+  ]
+    where
+      one_config : (a b : List ℕ) → status.Outside Disk (Some a) ≡ status.Outside Disk (Some b) → a ≡ b
+      one_config a b e = cc
+
+      no_disk : (config : List ℕ) → status.Outside Sink None ≡ status.Outside Disk (Some config) → ⊥
+      no_disk config e = cc
 
 -- ---- what holds of a run alone holds of any run
 
@@ -213,14 +249,16 @@ not_alone disk_tells feed_tells sink_tells run h = record {
   sums = h.sums;
 }
 
--- ---- what is settled where the run does not settle
+-- ---- a publication that is not built
 
-pub unsettled : (disk_tells sink_tells : Bool) (p : Published.Publication) (old new : Seen) (answer : Answer) → Publishes disk_tells sink_tells p old new answer
-    → (IsSettled answer.status → ⊥) → answer.settled ≡ []
-unsettled disk_tells sink_tells p old new answer by ends = elim by [
-  | inl done ↦ absurd (ends (is_settled answer.status (ap (λ (a : Answer). a.status) done.ended)))
+pub not_unbuilt : (texts : Tree) (roots : List (List ℕ)) (verbose disk_tells sink_tells : Bool) (p : Publication) (old new : Seen) (answer : Answer) → IsReady texts roots verbose p → Publishes disk_tells sink_tells p old new answer → answer.status ≡ status.NotBuilt → ⊥
+not_unbuilt texts roots verbose disk_tells sink_tells p old new answer ready by e = elim by [
+  | inl done ↦ unsettled_not_built answer.status e (subst IsSettled (sym (ap (λ (a : Answer). a.status) done.ended)) (publication_settles texts roots verbose p ready))
   | inr other ↦ elim other [
-    | inl disk ↦ ap (λ (a : Answer). a.settled) disk.ended
-    | inr sink ↦ ap (λ (a : Answer). a.settled) sink.ended
+    | inl disk ↦ outside Disk (Some disk.config) (sym (ap (λ (a : Answer). a.status) disk.ended) ∙ e)
+    | inr sink ↦ outside Sink None (sym (ap (λ (a : Answer). a.status) sink.ended) ∙ e)
   ]
 ]
+  where
+    outside : (which : Which) (project : Option (List ℕ)) → status.Outside which project ≡ status.NotBuilt → ⊥
+    outside which project e = cc

@@ -8,19 +8,19 @@ use Rattle.tb_face.specs.Infos.{spelling}
 use Rattle.tb_face.specs.Outputs.{info_text}
 use Rattle.tb_face.specs.declared.infos.Entry.{Entry}
 use Rattle.tb_outside.specs.declared.disks.DiskStep.{DiskStep}
-use Rattle.tb_outside.specs.declared.disks.DiskStep.TheVariants.{Write, Sync}
+use Rattle.tb_outside.specs.declared.disks.DiskStep.TheVariants.{Write}
 use Rattle.tb_session.specs.declared.sources.Emitted.{Emitted}
 use Rattle.tb_session.specs.declared.sources.Writes.{Writes}
+use Rattle.tb_plan.specs.declared.plans.Project.{Project}
 use Rattle.tb_session.specs.Builds.{outputs_of, info_output, info_with, record_of}
-use Rattle.tb_session.specs.Plans.{out_folder}
 use Rattle.tb_session.specs.Scripts.{write_of, IsScript}
-use Rattle.tb_session.specs.Sources.{Source}
+use Rattle.tb_session.specs.Sources.{Source, Build}
 use Rattle.tb_session.specs.Emitted.{emitted_of, writes_of}
 
 -- ---- a permutation of the values of a function
 
 module _ {X Y : Type 0} (f : X → Y) where
-  get_map : (xs : List X) (k : ℕ) (d : X) → get_or (map f xs) k (f d) ≡ f (get_or xs k d)
+  pub get_map : (xs : List X) (k : ℕ) (d : X) → get_or (map f xs) k (f d) ≡ f (get_or xs k d)
   get_map [] k d = refl
   get_map (x ∷ xs) zero d = refl
   get_map (x ∷ xs) (suc k) d = get_map xs k d
@@ -43,46 +43,50 @@ module _ {X Y : Type 0} (f : X → Y) where
     p.is ∙ map_swaps xs p.moves,
   )
 
--- what is sorted by the keys of its values is sorted by its own
-keys_back : (zs : List Source) → IsSortedByKey (λ (own : Writes). own.stem) bytes_cmp (map writes_of zs) → IsSortedByKey (λ (source : Source). source.stem) bytes_cmp zs
-keys_back zs ascending k d low high =
-    ap (λ (own : Writes). is_lt (bytes_cmp own.stem (get_or zs k d).stem)) (sym (get_map writes_of zs (k + 1) d))
-    ∙ ap (λ (own : Writes). is_lt (bytes_cmp (get_or (map writes_of zs) (k + 1) (writes_of d)).stem own.stem)) (sym (get_map writes_of zs k d))
-    ∙ ascending k (writes_of d) low (omega (arith, high, length-map zs writes_of))
-
 -- ---- the steps
 
 abbrev pub own_steps : Writes → List DiskStep
 own_steps own = own.js ∷ own.declaration ∷ []
 
-steps_are : (zs : List Source) → flat_map own_steps (map writes_of zs) ≡ map write_of (flat_map outputs_of zs)
-steps_are [] = refl
-steps_are (z ∷ zs) = ap (λ (rest : List DiskStep). (writes_of z).js ∷ (writes_of z).declaration ∷ rest) (steps_are zs)
+abbrev pub info_write : List ℕ → Project → List Entry → DiskStep
+info_write folder project entries = Write (info_text folder) (spelling (info_with project entries))
 
-entries_are : (sources : List Source) → map (λ (each : Emitted). each.entry) (map emitted_of sources) ≡ map record_of sources
-entries_are [] = refl
-entries_are (source ∷ rest) = ap (λ (entries : List Entry). record_of source ∷ entries) (entries_are rest)
+module _ (folder : List ℕ) where
+  -- what is sorted by the keys of its values is sorted by its own
+  keys_back : (zs : List Source) → IsSortedByKey (λ (own : Writes). own.stem) bytes_cmp (map (writes_of folder) zs) → IsSortedByKey (λ (source : Source). source.stem) bytes_cmp zs
+  keys_back zs ascending k d low high =
+      ap (λ (own : Writes). is_lt (bytes_cmp own.stem (get_or zs k d).stem)) (sym (get_map (writes_of folder) zs (k + 1) d))
+      ∙ ap (λ (own : Writes). is_lt (bytes_cmp (get_or (map (writes_of folder) zs) (k + 1) (writes_of folder d)).stem own.stem)) (sym (get_map (writes_of folder) zs k d))
+      ∙ ascending k (writes_of folder d) low (omega (arith, high, length-map zs (writes_of folder)))
 
-writes_are : (sources : List Source) → map (λ (each : Emitted). each.writes) (map emitted_of sources) ≡ map writes_of sources
-writes_are [] = refl
-writes_are (source ∷ rest) = ap (λ (writes : List Writes). writes_of source ∷ writes) (writes_are rest)
+  steps_are : (zs : List Source) → flat_map own_steps (map (writes_of folder) zs) ≡ map write_of (flat_map (outputs_of folder) zs)
+  steps_are [] = refl
+  steps_are (z ∷ zs) = ap (λ (rest : List DiskStep). (writes_of folder z).js ∷ (writes_of folder z).declaration ∷ rest) (steps_are zs)
 
-abbrev pub info_write : List Entry → DiskStep
-info_write entries = Write (info_text out_folder) (spelling (info_with entries))
+  entries_are : (sources : List Source) → map (λ (each : Emitted). each.entry) (map (emitted_of folder) sources) ≡ map record_of sources
+  entries_are [] = refl
+  entries_are (source ∷ rest) = ap (λ (entries : List Entry). record_of source ∷ entries) (entries_are rest)
 
-module _ (emitted : List Emitted) (sources : List Source) (are : emitted ≡ map emitted_of sources) where
-  pub is_script : (sorted : List Writes) (steps : List DiskStep) → IsPermutation (map (λ (each : Emitted). each.writes) emitted) sorted → IsSortedByKey (λ (own : Writes). own.stem) bytes_cmp sorted
-      → steps ≡ (flat_map own_steps sorted ++ info_write (map (λ (each : Emitted). each.entry) emitted) ∷ []) ++ Sync ∷ [] → IsScript sources steps
-  is_script sorted steps moved ascending is =
-      let writes : map (λ (each : Emitted). each.writes) emitted ≡ map writes_of sources = ap (map (λ (each : Emitted). each.writes)) are ∙ writes_are sources in
-      let entries : map (λ (each : Emitted). each.entry) emitted ≡ map record_of sources = ap (map (λ (each : Emitted). each.entry)) are ∙ entries_are sources in
-      let back = unmapped writes_of sources sorted (subst (λ (ws : List Writes). IsPermutation ws sorted) writes moved) in
-      record {
-        ordered = back.0;
-        same = back.1;
-        ascending = keys_back back.0 (subst (IsSortedByKey (λ (own : Writes). own.stem) bytes_cmp) back.2 ascending);
-        are = is
-            ∙ (λ i. (flat_map own_steps (back.2 i) ++ info_write (entries i) ∷ []) ++ Sync ∷ [])
-            ∙ (λ i. (steps_are back.0 i ++ write_of (info_output sources) ∷ []) ++ Sync ∷ [])
-            ∙ (λ i. sym (map_push write_of (flat_map outputs_of back.0) (info_output sources)) i ++ Sync ∷ []);
-      }
+  writes_are : (sources : List Source) → map (λ (each : Emitted). each.writes) (map (emitted_of folder) sources) ≡ map (writes_of folder) sources
+  writes_are [] = refl
+  writes_are (source ∷ rest) = ap (λ (writes : List Writes). writes_of folder source ∷ writes) (writes_are rest)
+
+  module _ (project : Project) (emitted : List Emitted) (sources : List Source) (are : emitted ≡ map (emitted_of folder) sources) where
+    abbrev build : Build
+    build = record { project = project; sources = sources }
+
+    pub is_script : (sorted : List Writes) (steps : List DiskStep) → IsPermutation (map (λ (each : Emitted). each.writes) emitted) sorted → IsSortedByKey (λ (own : Writes). own.stem) bytes_cmp sorted
+        → steps ≡ flat_map own_steps sorted ++ info_write folder project (map (λ (each : Emitted). each.entry) emitted) ∷ [] → IsScript folder build steps
+    is_script sorted steps moved ascending is =
+        let writes : map (λ (each : Emitted). each.writes) emitted ≡ map (writes_of folder) sources = ap (map (λ (each : Emitted). each.writes)) are ∙ writes_are sources in
+        let entries : map (λ (each : Emitted). each.entry) emitted ≡ map record_of sources = ap (map (λ (each : Emitted). each.entry)) are ∙ entries_are sources in
+        let back = unmapped (writes_of folder) sources sorted (subst (λ (ws : List Writes). IsPermutation ws sorted) writes moved) in
+        record {
+          ordered = back.0;
+          same = back.1;
+          ascending = keys_back back.0 (subst (IsSortedByKey (λ (own : Writes). own.stem) bytes_cmp) back.2 ascending);
+          are = is
+              ∙ (λ i. flat_map own_steps (back.2 i) ++ info_write folder project (entries i) ∷ [])
+              ∙ (λ i. steps_are back.0 i ++ write_of (info_output folder build) ∷ [])
+              ∙ sym (map_push write_of (flat_map (outputs_of folder) back.0) (info_output folder build));
+        }

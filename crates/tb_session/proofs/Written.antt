@@ -1,159 +1,421 @@
 -- What is written is read, and nothing else is changed.
-use Rattle.std.proofs.Common.{◌≡◌, ◌≢◌, ◌⊎◌, inl, inr, ℕ, zero, suc, ◌<◌, List, [], ◌∷◌, ◌++◌, length, get_or, map, flat_map, refl, sym, ap, ◌∙◌, subst, codes, arith, IsFalse}
-use Rattle.std.specs.Prelude.{Some, All, Contains}
+use Rattle.std.proofs.Common.{◌≡◌, ◌≢◌, ◌⊎◌, inl, inr, ℕ, suc, ◌<◌, List, [], ◌∷◌, ◌++◌, map, flat_map, refl, sym, ap, ◌∙◌, subst, codes, arith, Bool, true, false, IsTrue}
+use Rattle.std.specs.Prelude.{All, Option, Some, None, slice_get}
 use Rattle.std.specs.List.{AllByRecursion}
-use Rattle.std.proofs.lemmas.List.Elements.{All-from_recursion, recursion_from_All, All-contains_itself}
-use Rattle.std.proofs.lemmas.List.Sorted.{All-permutation, Contains-permutation}
+use Rattle.std.specs.Option.{option_to_list}
+use Rattle.std.proofs.lemmas.Bool.{true≢false}
+use Rattle.std.proofs.lemmas.List.Elements.{All-from_recursion, recursion_from_All}
+use Rattle.std.proofs.lemmas.List.Sorted.{Contains-permutation}
 use Rattle.tb_text.specs.Paths.{is_inside}
 use Rattle.tb_outside.specs.Disk.{Files, put_at, read_after_all}
 use Rattle.tb_outside.specs.Laws.{put_here, put_other, which_path}
 use Rattle.tb_outside.specs.Playing.{IsElsewhere}
 use Rattle.tb_outside.specs.declared.disks.DiskStep.{DiskStep}
-use Rattle.tb_outside.specs.declared.disks.DiskStep.TheVariants.{Sync}
-use Rattle.tb_session.specs.Builds.{js_of, declaration_of, js_output, declaration_output, outputs_of, info_output, build_of}
+use Rattle.tb_plan.specs.Folders.{are_shared, is_shared}
+use Rattle.tb_plan.specs.Laws.{PlanOk}
+use Rattle.tb_plan.specs.Plans.{plan_of, Sound}
+use Rattle.tb_plan.specs.declared.plans.Project.{Project}
+use Rattle.tb_session.specs.Blamed.{Blamed}
+use Rattle.tb_session.specs.Builds.{js_of, declaration_of, js_output, declaration_output, outputs_of, info_output, outputs_in, project_outputs}
 use Rattle.tb_session.specs.Generations.{Tree}
-use Rattle.tb_session.specs.Headline.{HasOutputs}
-use Rattle.tb_session.specs.Plans.{inputs, out_folder}
-use Rattle.tb_session.specs.Scripts.{write_of, IsScript}
-use Rattle.tb_session.specs.Sources.{Source, IsProject}
-use Rattle.tb_session.proofs.OneBuild.{IsAtPath, all_at_paths, same_source}
-use Rattle.tb_session.proofs.Outputs.{one_stem, js_not_declaration, js_not_info, declaration_not_info, outside}
+use Rattle.tb_session.specs.Plans.{IsOutside}
+use Rattle.tb_session.specs.Publishes.{FailsAt, steps_of}
+use Rattle.tb_session.specs.Scripts.{write_of, IsScript, AreScripts}
+use Rattle.tb_session.specs.Sources.{Source, Build, IsSource, AreSources, HasSources, IsBuild, projects_in}
+use Rattle.tb_session.specs.declared.publishes.Script.{Script}
+use Rattle.tb_session.proofs.Members.{In, in_left, in_right, in_append, in_flat, flat_in, in_map, all_by, each_of, in_permuted, in_from, in_back}
+use Rattle.tb_session.proofs.OneBuild.{one_source}
+use Rattle.tb_session.proofs.Outputs.{one_stem, one_path, js_not_declaration, js_not_info, declaration_not_info, output_inside, info_inside, not_both}
 
-abbrev Output : Type 0
+abbrev pub Output : Type 0
 Output = List ℕ × List ℕ
 
--- ---- members
-
-abbrev Has : {X : Type 0} → List X → X → Type 0
-Has [] x = ⊥
-Has (y ∷ ys) x = (y ≡ x) ⊎ Has ys x
-
-has_from : {X : Type 0} (xs : List X) (x : X) (k : ℕ) → k < length xs → get_or xs k x ≡ x → Has xs x
-has_from [] x k lt is = absurd (omega (arith, lt))
-has_from (y ∷ ys) x zero lt is = inl is
-has_from (y ∷ ys) x (suc k) lt is = inr (has_from ys x k (omega (arith, lt)) is)
+abbrev writes : List Output → List DiskStep
+writes outputs = map write_of outputs
 
 -- ---- one path
 
 -- whatever else is written to this path is these bytes
 abbrev Only : Output → List Output → Type 0
-Only output outputs = AllByRecursion (λ (o : Output). o.0 ≡ output.0 → o.1 ≡ output.1) outputs
+Only output outputs = (o : Output) → In outputs o → o.0 ≡ output.0 → o.1 ≡ output.1
 
-abbrev steps_of : List Output → List DiskStep
-steps_of outputs = map write_of outputs ++ Sync ∷ []
-
-read_back : (output : Output) (outputs : List Output) (files : Files) → Only output outputs → (files output.0 ≡ Some output.1) ⊎ Has outputs output
-    → read_after_all (steps_of outputs) files output.0 ≡ Some output.1
+read_back : (output : Output) (outputs : List Output) (files : Files) → Only output outputs → (files output.0 ≡ Some output.1) ⊎ In outputs output
+    → read_after_all (writes outputs) files output.0 ≡ Some output.1
 read_back output [] files only has = elim has [
   | inl there ↦ there
   | inr none ↦ absurd none
 ]
-read_back output (o ∷ outputs) files only has = elim has [
-  | inl there ↦ read_back output outputs (put_at o.0 (Some o.1) files) only.1 (elim (which_path output.0 o.0) [
-    | inl same ↦ inl (ap (put_at o.0 (Some o.1) files) same ∙ put_here o.0 (Some o.1) files ∙ ap Some (only.0 (sym same)))
-    | inr other ↦ inl (put_other o.0 (Some o.1) files output.0 other ∙ there)
-  ])
-  | inr named ↦ elim named [
-    | inl is ↦ read_back output outputs (put_at o.0 (Some o.1) files) only.1
-        (inl (ap (put_at o.0 (Some o.1) files) (ap (λ (x : Output). x.0) (sym is)) ∙ put_here o.0 (Some o.1) files ∙ ap (λ (x : Output). Some x.1) is))
-    | inr later ↦ read_back output outputs (put_at o.0 (Some o.1) files) only.1 (inr later)
+read_back output (o ∷ outputs) files only has =
+    let rest : Only output outputs = λ p i. only p (inr i) in
+    elim has [
+      | inl there ↦ read_back output outputs (put_at o.0 (Some o.1) files) rest (elim (which_path output.0 o.0) [
+        | inl same ↦ inl (ap (put_at o.0 (Some o.1) files) same ∙ put_here o.0 (Some o.1) files ∙ ap Some (only o (inl refl) (sym same)))
+        | inr other ↦ inl (put_other o.0 (Some o.1) files output.0 other ∙ there)
+      ])
+      | inr named ↦ elim named [
+        | inl is ↦ read_back output outputs (put_at o.0 (Some o.1) files) rest
+            (inl (ap (put_at o.0 (Some o.1) files) (ap (λ (x : Output). x.0) (sym is)) ∙ put_here o.0 (Some o.1) files ∙ ap (λ (x : Output). Some x.1) is))
+        | inr later ↦ read_back output outputs (put_at o.0 (Some o.1) files) rest (inr later)
+      ]
+    ]
+
+pub left_alone : (path : List ℕ) (steps : List DiskStep) (outputs : List Output) (files : Files) → steps ≡ writes outputs → ((o : Output) → In outputs o → path ≢ o.0) → read_after_all steps files path ≡ files path
+left_alone path steps outputs files are differ = ap (λ (ss : List DiskStep). read_after_all ss files path) are ∙ by outputs files differ
+  where
+    by : (outputs : List Output) (files : Files) → ((o : Output) → In outputs o → path ≢ o.0) → read_after_all (writes outputs) files path ≡ files path
+    by [] files differ = refl
+    by (o ∷ outputs) files differ = by outputs (put_at o.0 (Some o.1) files) (λ p i. differ p (inr i)) ∙ put_other o.0 (Some o.1) files path (differ o (inl refl))
+
+pub elsewhere_of : (path : List ℕ) (steps : List DiskStep) (outputs : List Output) → steps ≡ writes outputs → ((o : Output) → In outputs o → path ≢ o.0) → All (IsElsewhere path) steps
+elsewhere_of path steps outputs are differ = subst (λ (ss : List DiskStep). All (IsElsewhere path) ss) (sym are) (All-from_recursion (IsElsewhere path) (writes outputs) (by outputs differ))
+  where
+    by : (outputs : List Output) → ((o : Output) → In outputs o → path ≢ o.0) → AllByRecursion (IsElsewhere path) (writes outputs)
+    by [] differ = tt
+    by (o ∷ outputs) differ = (differ o (inl refl), by outputs (λ p i. differ p (inr i)))
+
+-- ---- the outputs of a project
+
+-- outputs at one path are one
+abbrev pub Agree : List Output → Type 0
+Agree outputs = (o p : Output) → In outputs o → In outputs p → o.0 ≡ p.0 → o.1 ≡ p.1
+
+-- this is the source at its own path
+abbrev IsAtPath : Tree → List ℕ → Source → Type 0
+IsAtPath texts root source = IsSource texts root source.path source
+
+all_at_paths : (texts : Tree) (root : List ℕ) (paths : List (List ℕ)) (sources : List Source) → AreSources texts root paths sources → AllByRecursion (IsAtPath texts root) sources
+all_at_paths texts root [] [] are = tt
+all_at_paths texts root [] (s ∷ sources) are = absurd are
+all_at_paths texts root (p ∷ paths) [] are = absurd are
+all_at_paths texts root (p ∷ paths) (s ∷ sources) are = (subst (λ (q : List ℕ). IsSource texts root q s) (sym are.0.at) are.0, all_at_paths texts root paths sources are.1)
+
+-- sources with one stem are one
+same_source : (texts : Tree) (root : List ℕ) (a b : Source) → IsAtPath texts root a → IsAtPath texts root b → a.stem ≡ b.stem → a ≡ b
+same_source texts root a b p q e =
+    let same : b.path ≡ a.path = one_path root b.path a.path a.stem (q.stem ∙ ap Some (sym e)) p.stem in
+    one_source texts root a.path a b p (subst (λ (path : List ℕ). IsSource texts root path b) same q)
+
+-- an output is the JavaScript or the declaration of a source, or the info
+data Kind (folder : List ℕ) (build : Build) : Output → Type 0 where
+  js : (source : Source) → In build.sources source → Kind folder build (js_output folder source)
+  declaration : (source : Source) → In build.sources source → Kind folder build (declaration_output folder source)
+  info : Kind folder build (info_output folder build)
+
+kind_by : (folder : List ℕ) (build : Build) (source : Source) (o : Output) → In build.sources source → In (outputs_of folder source) o → Kind folder build o
+kind_by folder build source o there has = elim has [
+  | inl e ↦ subst (Kind folder build) e (Kind.js source there)
+  | inr more ↦ elim more [
+    | inl e ↦ subst (Kind folder build) e (Kind.declaration source there)
+    | inr none ↦ absurd none
   ]
 ]
 
--- ---- the outputs of sources
-
--- all that is written of these sources, and of the info
-abbrev all_outputs : List Source → Output → List Output
-all_outputs sources info = flat_map outputs_of sources ++ info ∷ []
-
-module _ (info : Output) where
-  has_js : (sources : List Source) (source : Source) → Has sources source → Has (all_outputs sources info) (js_output source)
-  has_js [] source has = absurd has
-  has_js (s ∷ sources) source has = elim has [
-    | inl is ↦ inl (ap js_output is)
-    | inr later ↦ inr (inr (has_js sources source later))
+kind_of : (folder : List ℕ) (build : Build) (o : Output) → In (outputs_in (Some folder) build) o → Kind folder build o
+kind_of folder build o has = elim (in_append (flat_map (outputs_of folder) build.sources) (info_output folder build ∷ []) o has) [
+  | inl some ↦ let at = in_flat (outputs_of folder) build.sources o some in kind_by folder build at.0 o at.1 at.2
+  | inr last ↦ elim last [
+    | inl e ↦ subst (Kind folder build) e Kind.info
+    | inr none ↦ absurd none
   ]
+]
 
-  has_declaration : (sources : List Source) (source : Source) → Has sources source → Has (all_outputs sources info) (declaration_output source)
-  has_declaration [] source has = absurd has
-  has_declaration (s ∷ sources) source has = elim has [
-    | inl is ↦ inr (inl (ap declaration_output is))
-    | inr later ↦ inr (inr (has_declaration sources source later))
+-- it lies in the output folder
+kind_inside : (folder : List ℕ) (build : Build) (o : Output) → Kind folder build o → is_inside folder o.0 ≡ true
+kind_inside folder build o (Kind.js source there) = output_inside folder source.stem (codes ".js") (omega arith)
+kind_inside folder build o (Kind.declaration source there) = output_inside folder source.stem (codes ".d.ts") (omega arith)
+kind_inside folder build o Kind.info = info_inside folder
+
+module _ (texts : Tree) (folder : List ℕ) (build : Build) (are : AllByRecursion (IsAtPath texts build.project.setting.root) build.sources) where
+  one_source_of : (a b : Source) → In build.sources a → In build.sources b → a.stem ≡ b.stem → a ≡ b
+  one_source_of a b i j e =
+      let root : List ℕ = build.project.setting.root in
+      same_source texts root a b (each_of (IsAtPath texts root) build.sources a are i) (each_of (IsAtPath texts root) build.sources b are j) e
+
+  kinds_agree : (o p : Output) → Kind folder build o → Kind folder build p → o.0 ≡ p.0 → o.1 ≡ p.1
+  kinds_agree o p (Kind.js a i) (Kind.js b j) e = ap js_of (one_source_of a b i j (one_stem folder a.stem b.stem (codes ".js") e))
+  kinds_agree o p (Kind.js a i) (Kind.declaration b j) e = absurd (js_not_declaration folder a.stem b.stem e)
+  kinds_agree o p (Kind.js a i) Kind.info e = absurd (js_not_info folder a.stem e)
+  kinds_agree o p (Kind.declaration a i) (Kind.js b j) e = absurd (js_not_declaration folder b.stem a.stem (sym e))
+  kinds_agree o p (Kind.declaration a i) (Kind.declaration b j) e = ap declaration_of (one_source_of a b i j (one_stem folder a.stem b.stem (codes ".d.ts") e))
+  kinds_agree o p (Kind.declaration a i) Kind.info e = absurd (declaration_not_info folder a.stem e)
+  kinds_agree o p Kind.info (Kind.js b j) e = absurd (js_not_info folder b.stem (sym e))
+  kinds_agree o p Kind.info (Kind.declaration b j) e = absurd (declaration_not_info folder b.stem (sym e))
+  kinds_agree o p Kind.info Kind.info e = refl
+
+-- an output of a project has a folder, in which it lies
+in_own : (build : Build) (f : Option (List ℕ)) (o : Output) → In (outputs_in f build) o → (folder : List ℕ) × (f ≡ Some folder) × Kind folder build o
+in_own build None o has = absurd has
+in_own build (Some folder) o has = (folder, refl, kind_of folder build o has)
+
+one_project : (texts : Tree) (build : Build) (f : Option (List ℕ)) → HasSources texts build.project f build.sources → Agree (outputs_in f build)
+one_project texts build None has o p i j e = absurd i
+one_project texts build (Some folder) has o p i j e =
+    kinds_agree texts folder build (all_at_paths texts build.project.setting.root build.project.inputs build.sources has) o p (kind_of folder build o i) (kind_of folder build p j) e
+
+-- ---- the outputs of all projects
+
+abbrev pub all_outputs : List Build → List Output
+all_outputs builds = flat_map project_outputs builds
+
+-- the output folders of this project and of each later one are apart
+abbrev pub Apart : List Build → Type 0
+Apart [] = Unit {0}
+Apart (build ∷ rest) = AllByRecursion (λ (other : Build). are_shared build.project.setting.folder other.project.setting.folder ≡ false) rest × Apart rest
+
+shared_by : (f g : Option (List ℕ)) (a b : List ℕ) → f ≡ Some a → g ≡ Some b → are_shared f g ≡ false → is_shared a b ≡ false
+shared_by f g a b e h apart = (λ i. are_shared (sym e i) (sym h i)) ∙ apart
+
+-- no path is an output of two projects
+differ : (build : Build) (rest : List Build) (o p : Output) → AllByRecursion (λ (other : Build). are_shared build.project.setting.folder other.project.setting.folder ≡ false) rest
+    → In (project_outputs build) o → In (all_outputs rest) p → o.0 ≡ p.0 → ⊥
+differ build rest o p apart i j e =
+    let one = in_own build build.project.setting.folder o i in
+    let at = in_flat project_outputs rest p j in
+    let two = in_own at.0 at.0.project.setting.folder p at.2 in
+    not_both one.0 two.0 o.0
+    (shared_by build.project.setting.folder at.0.project.setting.folder one.0 two.0 one.1 two.1 (each_of (λ (other : Build). are_shared build.project.setting.folder other.project.setting.folder ≡ false) rest at.0 apart at.1))
+    (kind_inside one.0 build o one.2)
+    (ap (is_inside two.0) e ∙ kind_inside two.0 at.0 p two.2)
+
+pub agree : (texts : Tree) (builds : List Build) → AllByRecursion (IsBuild texts) builds → Apart builds → Agree (all_outputs builds)
+agree texts [] are apart o p i j e = absurd i
+agree texts (build ∷ rest) are apart o p i j e = elim (in_append (project_outputs build) (all_outputs rest) o i) [
+  | inl a ↦ elim (in_append (project_outputs build) (all_outputs rest) p j) [
+    | inl b ↦ one_project texts build build.project.setting.folder are.0 o p a b e
+    | inr b ↦ absurd (differ build rest o p apart.0 a b e)
   ]
+  | inr a ↦ elim (in_append (project_outputs build) (all_outputs rest) p j) [
+    | inl b ↦ absurd (differ build rest p o apart.0 b a (sym e))
+    | inr b ↦ agree texts rest are.1 apart.1 o p a b e
+  ]
+]
 
-  has_info : (sources : List Source) → Has (all_outputs sources info) info
-  has_info [] = inl refl
-  has_info (s ∷ sources) = inr (inr (has_info sources))
+-- by the places of projects in a plan
+abbrev ApartAt : List Build → Type 0
+ApartAt builds = (i j : ℕ) (p q : Project) → i < j → slice_get (projects_in builds) i ≡ Some p → slice_get (projects_in builds) j ≡ Some q → are_shared p.setting.folder q.setting.folder ≡ false
 
-module _ (texts : Tree) (all : List Source) where
-  js_only : (sources : List Source) (source : Source) → AllByRecursion (IsAtPath texts) sources → IsAtPath texts source → Only (js_output source) (all_outputs sources (info_output all))
-  js_only [] source are is = ((λ e. absurd (js_not_info source.stem (sym e))), tt)
-  js_only (s ∷ sources) source are is = (
-    (λ e. ap js_of (same_source texts s source are.0 is (one_stem s.stem source.stem (codes ".js") e))),
-    ((λ e. absurd (js_not_declaration source.stem s.stem (sym e))), js_only sources source are.1 is),
-  )
+place_of : (builds : List Build) (build : Build) → In builds build → (j : ℕ) × (slice_get (projects_in builds) j ≡ Some build.project)
+place_of [] build h = absurd h
+place_of (b ∷ builds) build h = elim h [
+  | inl e ↦ (0, ap (λ (x : Build). Some x.project) e)
+  | inr t ↦ let at = place_of builds build t in (suc at.0, at.1)
+]
 
-  declaration_only : (sources : List Source) (source : Source) → AllByRecursion (IsAtPath texts) sources → IsAtPath texts source
-      → Only (declaration_output source) (all_outputs sources (info_output all))
-  declaration_only [] source are is = ((λ e. absurd (declaration_not_info source.stem (sym e))), tt)
-  declaration_only (s ∷ sources) source are is = (
-    (λ e. absurd (js_not_declaration s.stem source.stem e)),
-    ((λ e. ap declaration_of (same_source texts s source are.0 is (one_stem s.stem source.stem (codes ".d.ts") e))), declaration_only sources source are.1 is),
-  )
+apart_from : (builds : List Build) → ApartAt builds → Apart builds
+apart_from [] at = tt
+apart_from (build ∷ rest) at = (
+  all_by (λ (other : Build). are_shared build.project.setting.folder other.project.setting.folder ≡ false) rest
+      (λ other h. let place = place_of rest other h in at 0 (suc place.0) build.project other.project (omega arith) refl place.1),
+  apart_from rest (λ i j p q lt a b. at (suc i) (suc j) p q (omega (arith, lt)) a b),
+)
 
-  info_only : (sources : List Source) → Only (info_output all) (all_outputs sources (info_output all))
-  info_only [] = ((λ e. refl), tt)
-  info_only (s ∷ sources) = ((λ e. absurd (js_not_info s.stem e)), ((λ e. absurd (declaration_not_info s.stem e)), info_only sources))
+pub all_apart : (texts : Tree) (builds : List Build) → PlanOk texts (record { projects = projects_in builds }) → Apart builds
+all_apart texts builds ok = apart_from builds (λ i j p q lt a b. (ok.apart i j p q lt a b).folders)
 
--- ---- the script
+-- ---- what the scripts write
 
-module _ (texts : Tree) (sources : List Source) (project : IsProject texts sources) (steps : List DiskStep) (script : IsScript sources steps) (files : Files) where
-  at_paths : AllByRecursion (IsAtPath texts) sources
-  at_paths = all_at_paths texts (inputs texts) sources project.are_sources
+-- these outputs are written, in some order
+pub record Wrote (target : List Output) (steps : List DiskStep) : Type 0 where
+  pub outputs : List Output
+  pub are : steps ≡ writes outputs
+  pub into : (o : Output) → In outputs o → In target o
+  pub back : (o : Output) → In target o → In outputs o
 
-  ordered_at_paths : AllByRecursion (IsAtPath texts) script.ordered
-  ordered_at_paths = recursion_from_All (IsAtPath texts) script.ordered (All-permutation (IsAtPath texts) sources script.ordered script.same (All-from_recursion (IsAtPath texts) sources at_paths))
+writes_append : (xs ys : List Output) → writes (xs ++ ys) ≡ writes xs ++ writes ys
+writes_append [] ys = refl
+writes_append (x ∷ xs) ys = ap (λ (ss : List DiskStep). write_of x ∷ ss) (writes_append xs ys)
 
-  all_written : AllByRecursion (Contains script.ordered) sources
-  all_written = recursion_from_All (Contains script.ordered) sources (λ k d lt. Contains-permutation sources script.ordered _ script.same (All-contains_itself sources k d lt))
+swapped : (folder : List ℕ) (build : Build) (these those : List Source) → ((s : Source) → In these s → In those s) → (o : Output)
+    → In (flat_map (outputs_of folder) these ++ info_output folder build ∷ []) o → In (flat_map (outputs_of folder) those ++ info_output folder build ∷ []) o
+swapped folder build these those more o has = elim (in_append (flat_map (outputs_of folder) these) (info_output folder build ∷ []) o has) [
+  | inl some ↦
+      let at = in_flat (outputs_of folder) these o some in
+      in_left (flat_map (outputs_of folder) those) (info_output folder build ∷ []) o (flat_in (outputs_of folder) those at.0 o (more at.0 at.1) at.2)
+  | inr last ↦ in_right (flat_map (outputs_of folder) those) (info_output folder build ∷ []) o last
+]
 
-  now : Files
-  now = read_after_all (steps_of (all_outputs script.ordered (info_output sources))) files
+wrote_one : (folder : List ℕ) (build : Build) (steps : List DiskStep) → build.project.setting.folder ≡ Some folder → IsScript folder build steps → Wrote (project_outputs build) steps
+wrote_one folder build steps placed script = record {
+  outputs = flat_map (outputs_of folder) script.ordered ++ info_output folder build ∷ [];
+  are = script.are;
+  into = λ o i. subst (λ (f : Option (List ℕ)). In (outputs_in f build) o) (sym placed) (swapped folder build script.ordered build.sources (in_permuted build.sources script.ordered script.same) o i);
+  back = λ o i. swapped folder build build.sources script.ordered (λ s h. in_from script.ordered s (Contains-permutation build.sources script.ordered s script.same (in_back build.sources s h))) o
+      (subst (λ (f : Option (List ℕ)). In (outputs_in f build) o) placed i);
+}
 
-  each_read : (some : List Source) → AllByRecursion (IsAtPath texts) some → AllByRecursion (Contains script.ordered) some
-      → AllByRecursion (λ (o : Output). now o.0 ≡ Some o.1) (all_outputs some (info_output sources))
-  unfolding now
-  each_read [] are in_script = (
-    read_back (info_output sources) (all_outputs script.ordered (info_output sources)) files (info_only texts sources script.ordered) (inr (has_info (info_output sources) script.ordered)),
-    tt,
-  )
-  each_read (s ∷ some) are in_script =
-      let has = has_from script.ordered s in_script.0.0 in_script.0.1 in_script.0.2 in (
-        read_back (js_output s) (all_outputs script.ordered (info_output sources)) files (js_only texts sources script.ordered s ordered_at_paths are.0)
-            (inr (has_js (info_output sources) script.ordered s has)),
-        (
-          read_back (declaration_output s) (all_outputs script.ordered (info_output sources)) files (declaration_only texts sources script.ordered s ordered_at_paths are.0)
-              (inr (has_declaration (info_output sources) script.ordered s has)),
-          each_read some are.1 in_script.1,
-        ),
-      )
+pub wrote : (builds : List Build) (scripts : List Script) → AreScripts builds scripts → Wrote (all_outputs builds) (steps_of scripts)
+wrote builds scripts AreScripts.none = record { outputs = []; are = refl; into = λ o i. i; back = λ o i. i }
+wrote builds scripts (AreScripts.without {build = build} {builds = rest} {scripts = more} e are) =
+    let w = wrote rest more are in
+    record {
+      outputs = w.outputs;
+      are = w.are;
+      into = λ o i. in_right (project_outputs build) (all_outputs rest) o (w.into o i);
+      back = λ o i. elim (in_append (project_outputs build) (all_outputs rest) o i) [
+        | inl a ↦ absurd (subst (λ (f : Option (List ℕ)). In (outputs_in f build) o) e a)
+        | inr b ↦ w.back o b
+      ];
+    }
+wrote builds scripts (AreScripts.more {build = build} {builds = rest} {script = script} {scripts = more} folder e named is are) =
+    let one = wrote_one folder build script.steps e is in
+    let w = wrote rest more are in
+    record {
+      outputs = one.outputs ++ w.outputs;
+      are = (λ i. one.are i ++ w.are i) ∙ sym (writes_append one.outputs w.outputs);
+      into = λ o i. elim (in_append one.outputs w.outputs o i) [
+        | inl a ↦ in_left (project_outputs build) (all_outputs rest) o (one.into o a)
+        | inr b ↦ in_right (project_outputs build) (all_outputs rest) o (w.into o b)
+      ];
+      back = λ o i. elim (in_append (project_outputs build) (all_outputs rest) o i) [
+        | inl a ↦ in_left one.outputs w.outputs o (one.back o a)
+        | inr b ↦ in_right one.outputs w.outputs o (w.back o b)
+      ];
+    }
 
-  pub outputs_read : HasOutputs (read_after_all steps files) (build_of sources)
-  unfolding now
-  outputs_read = subst (λ (ss : List DiskStep). HasOutputs (read_after_all ss files) (build_of sources)) (sym script.are) (each_read sources at_paths all_written)
+-- ---- all is read, and nothing else is changed
 
--- ---- nothing else
+pub all_read : (target : List Output) (steps : List DiskStep) (files : Files) → Wrote target steps → Agree target → (o : Output) → In target o → read_after_all steps files o.0 ≡ Some o.1
+all_read target steps files w agrees o i =
+    ap (λ (ss : List DiskStep). read_after_all ss files o.0) w.are ∙ read_back o w.outputs files (λ p j e. agrees p o (w.into p j) i e) (inr (w.back o i))
 
-elsewhere_of : (path : List ℕ) (outputs : List Output) → AllByRecursion (λ (o : Output). path ≢ o.0) outputs → AllByRecursion (IsElsewhere path) (steps_of outputs)
-elsewhere_of path [] differ = (tt, tt)
-elsewhere_of path (o ∷ outputs) differ = (differ.0, elsewhere_of path outputs differ.1)
+pub untouched : (target : List Output) (steps : List DiskStep) (files : Files) (path : List ℕ) → Wrote target steps → ((o : Output) → In target o → path ≢ o.0) → read_after_all steps files path ≡ files path
+untouched target steps files path w apart = left_alone path steps w.outputs files w.are (λ o i. apart o (w.into o i))
 
-all_differ : (path : List ℕ) (sources all : List Source) → IsFalse (is_inside out_folder path) → AllByRecursion (λ (o : Output). path ≢ o.0) (all_outputs sources (info_output all))
-all_differ path [] all apart = (outside path (codes "tsconfig.tsbuildinfo") apart, tt)
-all_differ path (s ∷ sources) all apart =
-    (outside path (s.stem ++ codes ".js") apart, (outside path (s.stem ++ codes ".d.ts") apart, all_differ path sources all apart))
+pub elsewhere : (target : List Output) (steps : List DiskStep) (path : List ℕ) → Wrote target steps → ((o : Output) → In target o → path ≢ o.0) → All (IsElsewhere path) steps
+elsewhere target steps path w apart = elsewhere_of path steps w.outputs w.are (λ o i. apart o (w.into o i))
 
-pub all_elsewhere : (sources : List Source) (steps : List DiskStep) → IsScript sources steps → (path : List ℕ) → IsFalse (is_inside out_folder path) → All (IsElsewhere path) steps
-all_elsewhere sources steps script path apart =
-    subst (λ (ss : List DiskStep). All (IsElsewhere path) ss) (sym script.are)
-    (All-from_recursion (IsElsewhere path) (steps_of (all_outputs script.ordered (info_output sources))) (elsewhere_of path _ (all_differ path script.ordered sources apart)))
+pub outputs_read : (texts : Tree) (builds : List Build) (scripts : List Script) (files : Files) → PlanOk texts (record { projects = projects_in builds }) → All (IsBuild texts) builds → AreScripts builds scripts
+    → AllByRecursion (λ output. read_after_all (steps_of scripts) files output.0 ≡ Some output.1) (flat_map project_outputs builds)
+outputs_read texts builds scripts files ok are script =
+    all_by (λ (o : Output). read_after_all (steps_of scripts) files o.0 ≡ Some o.1) (all_outputs builds)
+    (all_read (all_outputs builds) (steps_of scripts) files (wrote builds scripts script) (agree texts builds (recursion_from_All (IsBuild texts) builds are) (all_apart texts builds ok)))
+
+-- what lies outside all output folders is no output
+in_option : (f : Option (List ℕ)) (folder : List ℕ) → f ≡ Some folder → In (option_to_list f) folder
+in_option f folder e = subst (λ (g : Option (List ℕ)). In (option_to_list g) folder) (sym e) (inl refl)
+
+pub outside : (builds : List Build) (path : List ℕ) → IsOutside (Sound (record { projects = projects_in builds })) path → (o : Output) → In (all_outputs builds) o → path ≢ o.0
+outside builds path apart o i e =
+    let at = in_flat project_outputs builds o i in
+    let own = in_own at.0 at.0.project.setting.folder o at.2 in
+    let named = flat_in (λ (p : Project). option_to_list p.setting.folder) (projects_in builds) at.0.project own.0 (in_map (λ (b : Build). b.project) builds at.0 at.1) (in_option at.0.project.setting.folder own.0 own.1) in
+    true≢false (sym (ap (is_inside own.0) e ∙ kind_inside own.0 at.0 o own.2) ∙ apart own.0 (in_back (flat_map (λ (p : Project). option_to_list p.setting.folder) (projects_in builds)) own.0 named))
+
+-- ---- the project that is named where a call failed
+
+-- the build of one of the scripts
+record Split (builds : List Build) (before : List Script) (script : Script) : Type 0 where
+  front : List Build
+  build : Build
+  back : List Build
+  folder : List ℕ
+  whole : builds ≡ front ++ build ∷ back
+  scripts : AreScripts front before
+  placed : build.project.setting.folder ≡ Some folder
+  named : script.config ≡ build.project.setting.config
+  is : IsScript folder build script.steps
+
+head_or : Script → List Script → Script
+head_or s [] = s
+head_or s (t ∷ ts) = t
+
+tail_of : List Script → List Script
+tail_of [] = []
+tail_of (t ∷ ts) = ts
+
+split : (builds : List Build) (all : List Script) → AreScripts builds all → (before : List Script) (script : Script) (after : List Script) → all ≡ before ++ script ∷ after → Split builds before script
+unfolding head_or tail_of
+split builds all AreScripts.none [] script after e = absurd (cc)
+split builds all AreScripts.none (b ∷ before) script after e = absurd (cc)
+split builds all (AreScripts.without {build = build} {builds = rest} {scripts = some} f are) before script after e =
+    let s = split rest some are before script after e in
+    record {
+      front = build ∷ s.front;
+      build = s.build;
+      back = s.back;
+      folder = s.folder;
+      whole = ap (λ (bs : List Build). build ∷ bs) s.whole;
+      scripts = AreScripts.without f s.scripts;
+      placed = s.placed;
+      named = s.named;
+      is = s.is;
+    }
+split builds all (AreScripts.more {build = build} {builds = rest} {script = own} {scripts = scripts} folder f named is are) [] script after e =
+    let same : own ≡ script = ap (head_or own) e in
+    record {
+      front = [];
+      build = build;
+      back = rest;
+      folder = folder;
+      whole = refl;
+      scripts = AreScripts.none;
+      placed = f;
+      named = ap (λ (x : Script). x.config) (sym same) ∙ named;
+      is = subst (λ (x : Script). IsScript folder build x.steps) same is;
+    }
+split builds all (AreScripts.more {build = build} {builds = rest} {script = own} {scripts = scripts} folder f named is are) (b ∷ before) script after e =
+    let s = split rest scripts are before script after (ap tail_of e) in
+    let same : own ≡ b = ap (head_or own) e in
+    record {
+      front = build ∷ s.front;
+      build = s.build;
+      back = s.back;
+      folder = s.folder;
+      whole = ap (λ (bs : List Build). build ∷ bs) s.whole;
+      scripts = subst (λ (x : Script). AreScripts (build ∷ s.front) (x ∷ before)) same (AreScripts.more folder f named is s.scripts);
+      placed = s.placed;
+      named = s.named;
+      is = s.is;
+    }
+
+flat_left : {X Y : Type 0} (f : X → List Y) (xs ys : List X) (y : Y) → In (flat_map f xs) y → In (flat_map f (xs ++ ys)) y
+flat_left f xs ys y h = let at = in_flat f xs y h in flat_in f (xs ++ ys) at.0 y (in_left xs ys at.0 at.1) at.2
+
+flat_right : {X Y : Type 0} (f : X → List Y) (xs ys : List X) (y : Y) → In (flat_map f ys) y → In (flat_map f (xs ++ ys)) y
+flat_right f xs ys y h = let at = in_flat f ys y h in flat_in f (xs ++ ys) at.0 y (in_right xs ys at.0 at.1) at.2
+
+parts_apart : (front rest : List Build) → Apart (front ++ rest) → (o p : Output) → In (all_outputs front) o → In (all_outputs rest) p → o.0 ≡ p.0 → ⊥
+parts_apart [] rest apart o p i j e = absurd i
+parts_apart (b ∷ front) rest apart o p i j e = elim (in_append (project_outputs b) (all_outputs front) o i) [
+  | inl a ↦ differ b (front ++ rest) o p apart.0 a (flat_right project_outputs front rest p j) e
+  | inr a ↦ parts_apart front rest apart.1 o p a j e
+]
+
+-- what is no output was not touched
+pub failed_elsewhere : (builds : List Build) (scripts : List Script) → AreScripts builds scripts → (disk_tells : Bool) (config : List ℕ) (old new : Files) → IsTrue disk_tells → FailsAt disk_tells scripts config old new
+    → (path : List ℕ) → ((o : Output) → In (all_outputs builds) o → path ≢ o.0) → new path ≡ old path
+failed_elsewhere builds scripts script disk_tells config old new told f path apart =
+    let s = split builds scripts script f.before f.script f.after f.whole in
+    let last : List Build = s.build ∷ s.back in
+    let differs : (o : Output) → In (all_outputs (s.front ++ last)) o → path ≢ o.0 = subst (λ (bs : List Build). (o : Output) → In (all_outputs bs) o → path ≢ o.0) s.whole apart in
+    f.reads told path (elsewhere (project_outputs s.build) f.script.steps path (wrote_one s.folder s.build f.script.steps s.placed s.is)
+    (λ o i. differs o (flat_right project_outputs s.front last o (in_left (project_outputs s.build) (all_outputs s.back) o i))))
+    ∙ untouched (all_outputs s.front) (steps_of f.before) old path (wrote s.front f.before s.scripts) (λ o i. differs o (flat_left project_outputs s.front last o i))
+
+module _ (texts : Tree) (roots : List (List ℕ)) (builds : List Build) (scripts : List Script) (plan : plan_of texts roots ≡ Sound (record { projects = projects_in builds })) (ok : PlanOk texts (record { projects = projects_in builds }))
+    (are : All (IsBuild texts) builds) (script : AreScripts builds scripts) where
+  pub blamed : (disk_tells : Bool) (config : List ℕ) (old new : Files) → IsTrue disk_tells → FailsAt disk_tells scripts config old new → Blamed texts roots config old new
+  blamed disk_tells config old new told f =
+      let s = split builds scripts script f.before f.script f.after f.whole in
+      let one : Wrote (project_outputs s.build) f.script.steps = wrote_one s.folder s.build f.script.steps s.placed s.is in
+      let some : Wrote (all_outputs s.front) (steps_of f.before) = wrote s.front f.before s.scripts in
+      let last : List Build = s.build ∷ s.back in
+      let apart : Apart (s.front ++ last) = subst Apart s.whole (all_apart texts builds ok) in
+      let agrees : Agree (all_outputs (s.front ++ last)) = subst (λ (bs : List Build). Agree (all_outputs bs)) s.whole (agree texts builds (recursion_from_All (IsBuild texts) builds are) (all_apart texts builds ok)) in
+      record {
+        before = s.front;
+        build = s.build;
+        after = s.back;
+        plan = plan ∙ ap (λ (bs : List Build). Sound (record { projects = projects_in bs })) s.whole;
+        are = subst (λ (bs : List Build). All (IsBuild texts) bs) s.whole are;
+        named = f.named ∙ s.named;
+        folder = s.folder;
+        writes = s.placed;
+        done = all_by (λ (o : Output). new o.0 ≡ Some o.1) (all_outputs s.front)
+            (λ o i. f.reads told o.0 (elsewhere (project_outputs s.build) f.script.steps o.0 one (λ p j e. parts_apart s.front last apart o p i (in_left (project_outputs s.build) (all_outputs s.back) p j) e))
+            ∙ all_read (all_outputs s.front) (steps_of f.before) old some (λ p q j k e. agrees p q (flat_left project_outputs s.front last p j) (flat_left project_outputs s.front last q k) e) o i);
+        others = λ path out.
+            let differs : (o : Output) → In (all_outputs (s.front ++ s.build ∷ [])) o → path ≢ o.0 = outside (s.front ++ s.build ∷ []) path out in
+            f.reads told path (elsewhere (project_outputs s.build) f.script.steps path one (λ o i. differs o (flat_right project_outputs s.front (s.build ∷ []) o (in_left (project_outputs s.build) [] o i))))
+            ∙ untouched (all_outputs s.front) (steps_of f.before) old path some (λ o i. differs o (flat_left project_outputs s.front (s.build ∷ []) o i));
+      }

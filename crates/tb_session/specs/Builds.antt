@@ -1,30 +1,27 @@
--- What a clean build of a tree of texts gives.
-use Rattle.std.specs.Prelude.{ℕ, ◌≡◌, ◌++◌, List, [], ◌∷◌, Some, codes, length, map, flat_map, sum_by, count_by, not, nat_eq}
+-- What a clean build of a tree of texts gives: it compiles the projects of the plan in order, each whole. This project's own.
+use Rattle.std.specs.Prelude.{ℕ, ◌≡◌, ◌≢◌, ◌++◌, Contains, List, [], ◌∷◌, Option, Some, None, All, codes, length, map, flat_map, sum_by, count_by, not, nat_eq}
 use Rattle.tb_text.specs.declared.findings.Diag.{Diag}
+use Rattle.tb_text.specs.declared.statuses.Status.{Status}
 use Rattle.tb_face.specs.Digests.{sha}
 use Rattle.tb_face.specs.Infos.{spelling}
-use Rattle.tb_face.specs.Options.{options_text}
 use Rattle.tb_face.specs.Outputs.{output_text, info_text}
 use Rattle.tb_face.specs.declared.infos.Entry.{Entry}
 use Rattle.tb_face.specs.declared.infos.Info.{Info}
-use Rattle.tb_face.specs.declared.options.Options.{Options}
 use Rattle.tb_plain.specs.Erase.{erase}
 use Rattle.tb_plain.specs.Layout.{js_text}
 use Rattle.tb_plain.specs.Surface.{surface, dts_text}
+use Rattle.tb_plan.specs.Plans.{plan_of, Sound, Faulted}
+use Rattle.tb_plan.specs.declared.plans.Project.{Project}
 use Rattle.tb_session.specs.Generations.{Tree}
-use Rattle.tb_session.specs.Plans.{config_path, out_folder}
-use Rattle.tb_session.specs.Sources.{Source, path_of, IsProject}
+use Rattle.tb_session.specs.Sources.{Source, Build, IsBuild, projects_in}
 
--- a project of the plan
-pub record Project : Type 0 where
-  pub config : List ℕ
-  pub inputs : List (List ℕ)
-
--- the bytes at each output path, the diagnostics in order, and the projects in plan order
+-- the bytes at each output path, the diagnostics in order, and the projects in plan order; and the status of the plan's
+-- faults, where it has any
 pub record Clean : Type 0 where
   pub outputs : List (List ℕ × List ℕ)
   pub diags : List Diag
   pub projects : List Project
+  pub faulted : Option Status
 
 -- how many inputs the projects have
 abbrev pub checks_of : Clean → ℕ
@@ -43,20 +40,20 @@ js_of source = js_text (erase source.file)
 abbrev pub declaration_of : Source → List ℕ
 declaration_of source = dts_text (surface source.file)
 
--- the bytes at its output paths
-abbrev pub js_output : Source → List ℕ × List ℕ
-js_output source = (output_text out_folder source.stem (codes ".js"), js_of source)
+-- the bytes at its output paths, in an output folder
+abbrev pub js_output : List ℕ → Source → List ℕ × List ℕ
+js_output folder source = (output_text folder source.stem (codes ".js"), js_of source)
 
-abbrev pub declaration_output : Source → List ℕ × List ℕ
-declaration_output source = (output_text out_folder source.stem (codes ".d.ts"), declaration_of source)
+abbrev pub declaration_output : List ℕ → Source → List ℕ × List ℕ
+declaration_output folder source = (output_text folder source.stem (codes ".d.ts"), declaration_of source)
 
-abbrev pub outputs_of : Source → List (List ℕ × List ℕ)
-outputs_of source = js_output source ∷ declaration_output source ∷ []
+abbrev pub outputs_of : List ℕ → Source → List (List ℕ × List ℕ)
+outputs_of folder source = js_output folder source ∷ declaration_output folder source ∷ []
 
 -- what is recorded of it: a plain file imports nothing, so it has no edges and reaches nothing
 abbrev pub record_of : Source → Entry
 record_of source = record {
-  path = path_of source;
+  path = source.path;
   version = sha source.text;
   signature = Some (sha (declaration_of source));
   edges = [];
@@ -64,38 +61,46 @@ record_of source = record {
   findings = [];
 }
 
--- ---- the project
-
-abbrev pub options_of : Options
-options_of = record { out_dir = out_folder; paths = []; project = config_path; root_dir = [] }
+-- ---- one project
 
 -- the info with these entries
-abbrev pub info_with : List Entry → Info
-info_with entries = record {
-  project = config_path;
-  root = [];
-  options = sha (options_text options_of);
+abbrev pub info_with : Project → List Entry → Info
+info_with project entries = record {
+  project = project.setting.config;
+  root = project.setting.root;
+  options = project.options;
   files = entries;
   pending = [];
 }
 
-abbrev pub info_of : List Source → Info
-info_of sources = info_with (map record_of sources)
-
 -- the bytes at the info's path
-abbrev pub info_output : List Source → List ℕ × List ℕ
-info_output sources = (info_text out_folder, spelling (info_of sources))
+abbrev pub info_output : List ℕ → Build → List ℕ × List ℕ
+info_output folder build = (info_text folder, spelling (info_with build.project (map record_of build.sources)))
 
--- what is built of these sources
-abbrev pub build_of : List Source → Clean
-build_of sources = record {
-  outputs = flat_map outputs_of sources ++ info_output sources ∷ [];
-  diags = [];
-  projects = record { config = config_path; inputs = map path_of sources } ∷ [];
-}
+-- the bytes at all output paths; without an output folder there are none
+abbrev pub outputs_in : Option (List ℕ) → Build → List (List ℕ × List ℕ)
+outputs_in None build = []
+outputs_in (Some folder) build = flat_map (outputs_of folder) build.sources ++ info_output folder build ∷ []
 
--- this is the clean build of the texts
-pub record IsClean (texts : Tree) (clean : Clean) : Type 0 where
-  pub sources : List Source
-  pub project : IsProject texts sources
-  pub build : clean ≡ build_of sources
+abbrev pub project_outputs : Build → List (List ℕ × List ℕ)
+project_outputs build = outputs_in build.project.setting.folder build
+
+-- ---- the whole
+
+-- what is built of these projects
+abbrev pub build_of : List Build → Clean
+build_of builds = record { outputs = flat_map project_outputs builds; diags = []; projects = projects_in builds; faulted = None }
+
+-- of a plan with faults nothing is built
+abbrev pub faulted_of : List Diag → Status → Clean
+faulted_of diags status = record { outputs = []; diags = diags; projects = []; faulted = Some status }
+
+-- the clean build has no output at this path
+abbrev pub IsNoOutput : Clean → List ℕ → Type 0
+IsNoOutput clean path = (output : List ℕ × List ℕ) → Contains clean.outputs output → path ≢ output.0
+
+-- this is the clean build of the texts from these roots
+pub data IsClean (texts : Tree) (roots : List (List ℕ)) : Clean → Type 0 where
+  built : (builds : List Build) → plan_of texts roots ≡ Sound (record { projects = projects_in builds }) → All (IsBuild texts) builds
+      → IsClean texts roots (build_of builds)
+  faulted : (diags : List Diag) (status : Status) → plan_of texts roots ≡ Faulted diags status → IsClean texts roots (faulted_of diags status)

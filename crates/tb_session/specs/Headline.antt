@@ -8,8 +8,8 @@ use Rattle.tb_text.specs.declared.statuses.Status.{Status}
 use Rattle.tb_outside.specs.Causes.{Rose}
 use Rattle.tb_outside.specs.Disk.{Files}
 use Rattle.tb_outside.specs.declared.feeds.Turn.{Turn}
+use Rattle.tb_words.specs.declared.commands.Command.{Command}
 use Rattle.tb_session.specs.Blame.{Counts}
-use Rattle.tb_session.specs.Commands.{Command}
 use Rattle.tb_session.specs.Generations.{Tree, opening, taken, batches, quiets_from, texts_at}
 use Rattle.tb_session.specs.Builds.{Clean, IsClean, checks_of, builds_of}
 use Rattle.tb_session.specs.Reports.{report_text, status_of}
@@ -53,6 +53,10 @@ last run = length (batches (turns_taken run))
 abbrev pub texts_of : Run → ℕ → Tree
 texts_of run g = texts_at (opening run.tree) (batches (turns_taken run)) g
 
+-- this is the clean build of a generation
+abbrev pub IsCleanAt : Run → ℕ → Clean → Type 0
+IsCleanAt run g clean = IsClean (texts_of run g) run.command.roots clean
+
 -- the generations that a run may settle
 abbrev pub IsDue : Run → ℕ → Type 0
 IsDue run g = Contains (quiets run) g ⊎ (g ≡ last run)
@@ -64,7 +68,7 @@ report_of run g clean = report_text g run.command.verbose (texts_of run g) clean
 -- the reports of these generations, one after the other
 pub data AreReports (run : Run) : List ℕ → List ℕ → Type 0 where
   none : AreReports run [] []
-  more : (g : ℕ) (gs text : List ℕ) (clean : Clean) → IsClean (texts_of run g) clean → AreReports run gs text
+  more : (g : ℕ) (gs text : List ℕ) (clean : Clean) → IsCleanAt run g clean → AreReports run gs text
       → AreReports run (g ∷ gs) (report_of run g clean ++ text)
 
 -- this generation may be settled, and lies above every settled one
@@ -76,7 +80,7 @@ IsNext run g = IsDue run g × ((h : ℕ) → Contains run.settled h → h < g)
 pub data IsTail (alone : Bool) (run : Run) : List ℕ → Type 0 where
   nothing : IsTail alone run []
   cut : (g n : ℕ) (clean : Clean) → Rose run.before.sink run.after.sink → IsNext run g → (IsTrue alone → (h : ℕ) → IsNext run h → g ≤ h)
-      → IsClean (texts_of run g) clean → IsTail alone run (take n (report_of run g clean))
+      → IsCleanAt run g clean → IsTail alone run (take n (report_of run g clean))
 
 -- what the sink took in the run
 pub record Prints (alone : Bool) (run : Run) : Type 0 where
@@ -99,9 +103,9 @@ pub record Headline (alone disk_tells feed_tells sink_tells : Bool) (run : Run) 
   -- where the sink tells what it took, the reports of just the settled generations were printed, whole and in order
   pub diagnostics : IsTrue sink_tells → Prints alone run
   -- where the run settles, the disk has the bytes of a clean build of the last generation's texts
-  pub bytes : IsTrue disk_tells → IsSettled run.status → (clean : Clean) → IsClean (texts_of run (last run)) clean → HasOutputs run.files clean
+  pub bytes : IsTrue disk_tells → IsSettled run.status → (clean : Clean) → IsCleanAt run (last run) clean → HasOutputs run.files clean
   -- each settled generation has a clean build
-  pub clean : (g : ℕ) → Contains run.settled g → (clean : Clean) × IsClean (texts_of run g) clean
+  pub clean : (g : ℕ) → Contains run.settled g → (clean : Clean) × IsCleanAt run g clean
   -- the settled generations ascend, and each stands at a Quiet turn or is the last; built alone, where the run settles, these are all
   pub ascending : IsStrictlyIncreasing run.settled
   pub due : (g : ℕ) → Contains run.settled g → IsDue run g
@@ -112,11 +116,11 @@ pub record Headline (alone disk_tells feed_tells sink_tells : Bool) (run : Run) 
   pub left : IsTrue feed_tells → IsSettled run.status → run.turns_left ≡ drop (length (turns_taken run)) run.turns
   -- where the run settles, it has settled the last generation, and the status is that of its clean build
   pub settles : IsSettled run.status → EndsIn run.settled (last run)
-  pub status : IsSettled run.status → (clean : Clean) → IsClean (texts_of run (last run)) clean → run.status ≡ status_of clean
+  pub status : IsSettled run.status → (clean : Clean) → IsCleanAt run (last run) clean → run.status ≡ status_of clean
   -- what was checked and built
-  pub sums : IsSettled run.status → (clean : Clean) → IsClean (texts_of run (last run)) clean
+  pub sums : IsSettled run.status → (clean : Clean) → IsCleanAt run (last run) clean
       → (run.checked ≡ checks_of clean) × (run.built ≡ builds_of clean)
 
--- no clean build is of these texts: they are not built yet
-abbrev pub NotServed : Tree → Type 0
-NotServed texts = (clean : Clean) → IsClean texts clean → ⊥
+-- no clean build is of these texts from these roots: they are not built yet
+abbrev pub NotServed : Tree → List (List ℕ) → Type 0
+NotServed texts roots = (clean : Clean) → IsClean texts roots clean → ⊥

@@ -1,14 +1,17 @@
 pub mod Adding
 pub mod Blame
+pub mod Blamed
 pub mod Builds
 pub mod Commands
 pub mod Emitted
 pub mod Ends
 pub mod Generations
 pub mod Headline
+pub mod Placed
 pub mod Plans
 pub mod Publishes
 pub mod Ready
 pub mod Reports
 pub mod Scripts
+pub mod Served
 pub mod Sources

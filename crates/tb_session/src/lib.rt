@@ -5,10 +5,11 @@
 mod builds;
 mod ended;
 mod opening;
-mod plans;
 mod prepares;
 mod publishes;
+mod reports;
 mod runs;
+mod scripts;
 mod sources;
 mod words;
 

@@ -1,13 +1,15 @@
 ghost use Rattle.std.specs.Prelude.{◌≡◌, ◌∷◌, [], IfOk, IfSome, IsNone};
+ghost use Rattle.tb_plan.specs.Laws.{PlanOk};
+ghost use Rattle.tb_plan.specs.Plans.{plan_of, Sound, Faulted};
 ghost use Rattle.tb_session.specs.Headline.{NotServed};
 ghost use Rattle.tb_session.specs.Ready.{IsReady};
 
-use crate::builds::{last_line, script_of};
-use crate::plans::config_path;
+use crate::builds::{inputs_in, scripts_of, with_inputs};
 use crate::publishes::Publication;
-use crate::sources::emit_project;
+use crate::reports::{built_report, faulted_report};
 use std::alloc::Global;
-use tb_text::{List, NoMemory, Texts};
+use tb_plan::{Plan, PlanFault, make_plan};
+use tb_text::{Diag, List, NoMemory, Path, Status, Texts};
 
 // The list of generation 0.
 fn opening_alone(alloc: Global) -> Result<List<u64>, NoMemory>
@@ -18,24 +20,71 @@ fn opening_alone(alloc: Global) -> Result<List<u64>, NoMemory>
     Ok(settled)
 }
 
-/// The publication of generation 0; none where the texts are not built yet.
-pub fn prepare(alloc: Global, texts: &Texts) -> Result<Option<Publication>, NoMemory>
-    ensures ready { IfOk result (λ found. IfSome found (IsReady texts.now)) }
-    ensures none { IfOk result (λ found. IsNone found → NotServed texts.now) }
+// The publication of a plan without faults; none where an input is no source.
+fn prepare_plan(
+    alloc: Global,
+    texts: &Texts,
+    roots: &[Path],
+    plan: &Plan,
+    verbose: bool,
+) -> Result<Option<Publication>, NoMemory>
+    requires is { plan_of texts.now roots.now ≡ Sound plan.now }
+    requires ok { PlanOk texts.now plan.now }
+    ensures ready { IfOk result (λ found. IfSome found (IsReady texts.now roots.now verbose)) }
+    ensures none { IfOk result (λ found. IsNone found → NotServed texts.now roots.now) }
 {
-    let Some(emitted) = emit_project(alloc, texts)? else {
+    let projects = plan.projects.as_slice();
+    let Some(scripts) = scripts_of(alloc, texts, projects)? else {
         return Ok(None);
     };
-    let checked = emitted.len() as u64;
-    let steps = script_of(alloc, emitted)?;
-    let report = last_line(alloc, 0, 0, 1)?;
-    let config = config_path(alloc)?;
-    let settled = opening_alone(alloc)?;
     Ok(Some(Publication {
-        steps,
-        report,
-        config,
-        settled,
-        checked,
+        scripts,
+        report: built_report(alloc, verbose, projects)?,
+        status: Status::Clean,
+        settled: opening_alone(alloc)?,
+        checked: inputs_in(projects),
+        built: with_inputs(projects),
     }))
+}
+
+// The publication of a plan's faults: they are printed, and nothing is written.
+fn prepare_faults(
+    alloc: Global,
+    texts: &Texts,
+    roots: &[Path],
+    diags: &List<Diag>,
+    status: Status,
+    verbose: bool,
+) -> Result<Publication, NoMemory>
+    requires { plan_of texts.now roots.now ≡ Faulted diags.now status }
+    ensures { IfOk result (IsReady texts.now roots.now verbose) }
+{
+    Ok(Publication {
+        scripts: List::new(alloc),
+        report: faulted_report(alloc, diags.as_slice())?,
+        status,
+        settled: opening_alone(alloc)?,
+        checked: 0,
+        built: 0,
+    })
+}
+
+/// The publication of generation 0; none where the texts are not built yet.
+pub fn prepare(
+    alloc: Global,
+    texts: &Texts,
+    roots: &[Path],
+    verbose: bool,
+) -> Result<Option<Publication>, NoMemory>
+    ensures ready { IfOk result (λ found. IfSome found (IsReady texts.now roots.now verbose)) }
+    ensures none { IfOk result (λ found. IsNone found → NotServed texts.now roots.now) }
+{
+    match make_plan(alloc, texts, roots) {
+        Ok(plan) => prepare_plan(alloc, texts, roots, &plan, verbose),
+        Err(PlanFault::Faults { diags, status }) => {
+            let publication = prepare_faults(alloc, texts, roots, &diags, status, verbose)?;
+            Ok(Some(publication))
+        }
+        Err(PlanFault::NoMemory) => Err(NoMemory),
+    }
 }

@@ -1,23 +1,35 @@
-ghost use Rattle.std.specs.Prelude.{◌≡◌, [], ◌∷◌, ℕ, List, All, IsTrue};
-ghost use Rattle.tb_outside.specs.Playing.{IsElsewhere};
-ghost use Rattle.tb_session.specs.Publishes.{Publishes};
+ghost use Rattle.std.specs.Prelude.{◌≡◌, [], IfErr, IsTrue, OnOk, is_err};
+ghost use Rattle.tb_outside.specs.Causes.{Causes};
+ghost use Rattle.tb_outside.specs.Disk.{Same, read_after_all};
+ghost use Rattle.tb_session.specs.Publishes.{FailsAt, Publishes, steps_of};
 
 use crate::ended::Ended;
 use std::alloc::Global;
 use tb_outside::{Disk, DiskStep, Sink, play};
 use tb_text::{List, Path, Status, Text, Which};
 
+/// What is done on the disk for one project.
+#[derive(Drop)]
+pub struct Script {
+    /// The project's config, which is named where a call fails.
+    pub config: Path,
+    pub steps: List<DiskStep>,
+}
+
 /// A generation that is ready: what is done on the disk and printed then. All memory that this needs was taken.
 #[derive(Drop)]
 pub struct Publication {
-    pub steps: List<DiskStep>,
+    /// In plan order.
+    pub scripts: List<Script>,
     pub report: Text,
-    /// The project that is named where the disk fails.
-    pub config: Path,
+    /// The status of the generation.
+    pub status: Status,
     /// The list of the one generation.
     pub settled: List<u64>,
     /// How many inputs there are.
     pub checked: u64,
+    /// How many projects have inputs.
+    pub built: u64,
 }
 
 /// A run that stopped before it settled anything.
@@ -35,6 +47,29 @@ pub fn stopped<D, F, O>(alloc: Global, status: Status, disk: D, feed: F, out: O)
     }
 }
 
+// Does all scripts in order, and has what was written stay. Where a call fails, the config of its project is told.
+fn write_all<D: Disk>(disk: &mut D, scripts: List<Script>) -> Result<(), Path>
+    ensures done { IsTrue D.tells → OnOk result (Same (read_after_all (steps_of scripts) (D.reads disk.old)) (D.reads disk.new)) }
+    ensures failed { IfErr result (λ config. FailsAt D.tells scripts config (D.reads disk.old) (D.reads disk.new)) }
+    ensures cause { Causes (D.count disk.old) (D.count disk.new) (is_err result) }
+{
+    let mut last = None;
+    for script in scripts.into_vec() {
+        let Script { config, steps } = script;
+        if play(disk, steps.as_slice()).is_err() {
+            return Err(config);
+        }
+        last = Some(config);
+    }
+    match last {
+        Some(config) => match disk.sync() {
+            Ok(()) => Ok(()),
+            Err(_) => Err(config),
+        },
+        None => Ok(()),
+    }
+}
+
 /// Writes all outputs, and then prints the report.
 pub fn publish<D: Disk, F, O: Sink>(
     alloc: Global,
@@ -43,24 +78,21 @@ pub fn publish<D: Disk, F, O: Sink>(
     feed: F,
     mut out: O,
 ) -> Ended<D, F, O>
-    requires { publication.settled ≡ 0 ∷ [] }
-    ensures published { Publishes D.tells O.tells
-        (record { steps = publication.steps; report = publication.report; config = publication.config; checked = publication.checked })
+    ensures published { Publishes D.tells O.tells publication
         (record { files = D.reads disk; printed = O.taken out; disk_count = D.count disk; sink_count = O.count out })
         (record { files = D.reads result.disk; printed = O.taken result.out; disk_count = D.count result.disk; sink_count = O.count result.out })
         (record { status = result.status; settled = result.settled; checked = result.checked; built = result.built }) }
-    // Whatever it answers, a path that no step names reads as before.
-    ensures others { IsTrue D.tells → (path : List ℕ) → All (IsElsewhere path) publication.steps → D.reads result.disk path ≡ D.reads disk path }
     ensures feed { result.feed ≡ feed }
 {
     let Publication {
-        steps,
+        scripts,
         report,
-        config,
+        status,
         settled,
         checked,
+        built,
     } = publication;
-    if play(&mut disk, steps.as_slice()).is_err() {
+    if let Err(config) = write_all(&mut disk, scripts) {
         let status = Status::Outside {
             which: Which::Disk,
             project: Some(config),
@@ -75,17 +107,17 @@ pub fn publish<D: Disk, F, O: Sink>(
             },
             settled: List::new(alloc),
             checked,
-            built: 1,
+            built,
             disk,
             feed,
             out,
         };
     }
     Ended {
-        status: Status::Clean,
+        status,
         settled,
         checked,
-        built: 1,
+        built,
         disk,
         feed,
         out,

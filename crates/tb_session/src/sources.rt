@@ -1,24 +1,21 @@
-ghost use Rattle.std.specs.Prelude.{◌≡◌, [], ℕ, List, IfOk, IfSome, IsNone, IsTrue, Some, codes, map};
+ghost use Rattle.std.specs.Prelude.{◌≡◌, [], ℕ, List, IfOk, IfSome, IsNone, IsTrue, Some, Contains, codes, map};
 ghost use Rattle.tb_text.specs.Paths.{is_path};
 ghost use Rattle.tb_face.specs.Digests.{sha};
-ghost use Rattle.tb_face.specs.Outputs.{output_text, stem_text, if_path};
+ghost use Rattle.tb_face.specs.Outputs.{output_text, stem_text};
 ghost use Rattle.tb_plain.specs.declared.trees.File.{File};
 ghost use Rattle.tb_plain.specs.Erase.{erase};
 ghost use Rattle.tb_plain.specs.Layout.{js_text};
 ghost use Rattle.tb_plain.specs.Surface.{surface, dts_text};
 ghost use Rattle.tb_outside.specs.declared.disks.DiskStep.TheVariants.{Write};
 ghost use Rattle.tb_parse_file.specs.Files.{ReadsPlain};
-ghost use Rattle.tb_session.specs.Plans.{out_folder};
-ghost use Rattle.tb_session.specs.Sources.{Source, HasOutputPaths, HasFile, IsSource, AreSources, IsProject};
+ghost use Rattle.tb_session.specs.Sources.{Source, HasFile, IsSource, AreSources};
 ghost use Rattle.tb_session.specs.Emitted.{emitted_of};
+ghost use Rattle.tb_session.specs.Placed.{HasOutputPaths, HaveOutputPaths};
 
-use crate::plans::{MOST_INPUT, MOST_INPUTS, are_small, has_config, inputs, out_folder, root_path};
 use std::alloc::Global;
 use tb_emit_dts::{dts, plain_surface};
 use tb_emit_js::js;
-use tb_face::{
-    DECLARATION, Entry, SCRIPT, output_path, signature, stem_text, stems_of_paths, version,
-};
+use tb_face::{DECLARATION, Entry, SCRIPT, output_path, signature, stem_text, version};
 use tb_outside::DiskStep;
 use tb_parse_file::{FileFault, read_file};
 use tb_plain::{File, is_plain};
@@ -27,7 +24,7 @@ use tb_text::{Digest, List, Name, NoMemory, Path, PathFault, Text, Texts};
 /// The outputs of an input, ready to be written.
 #[derive(Drop)]
 pub struct Writes {
-    /// The input's path without its `.ts`.
+    /// The input's path relative to the root, without its `.ts`.
     pub stem: Name,
     pub js: DiskStep,
     pub declaration: DiskStep,
@@ -57,36 +54,27 @@ struct OutputPaths {
     declaration: Path,
 }
 
-fn output_at(
-    alloc: Global,
-    folder: &Path,
-    stem: &Name,
-    ending: &str,
-) -> Result<Option<Path>, NoMemory>
-    ensures { IfOk result (λ path. path ≡ if_path (output_text folder.now stem.now ending.now)) }
+// The path of an output, whose text is one.
+fn output_at(alloc: Global, folder: &Path, stem: &Name, ending: &str) -> Result<Path, NoMemory>
+    requires { IsTrue (is_path (output_text folder.now stem.now ending.now)) }
+    ensures { IfOk result (λ path. path ≡ output_text folder.now stem.now ending.now) }
 {
     match output_path(alloc, folder, stem.as_str(), ending) {
-        Ok(path) => Ok(Some(path)),
-        Err(PathFault::BadPath) => Ok(None),
+        Ok(path) => Ok(path),
         Err(PathFault::NoMemory) => Err(NoMemory),
+        Err(PathFault::BadPath) => unreachable!(),
     }
 }
 
-// The paths of the outputs of a stem, where they are paths.
-fn output_paths(alloc: Global, folder: &Path, stem: &Name) -> Result<Option<OutputPaths>, NoMemory>
-    requires { folder.now ≡ out_folder }
-    ensures has { IfOk result (λ found. IfSome found (λ _. HasOutputPaths stem.now)) }
-    ensures js { IfOk result (λ found. IfSome found (λ paths. paths.js ≡ output_text out_folder stem.now (codes ".js"))) }
-    ensures declaration { IfOk result (λ found. IfSome found (λ paths. paths.declaration ≡ output_text out_folder stem.now (codes ".d.ts"))) }
-    ensures none { IfOk result (λ found. IsNone found → HasOutputPaths stem.now → ⊥) }
+fn output_paths(alloc: Global, folder: &Path, stem: &Name) -> Result<OutputPaths, NoMemory>
+    requires { HasOutputPaths folder.now stem.now }
+    ensures js { IfOk result (λ paths. paths.js ≡ output_text folder.now stem.now (codes ".js")) }
+    ensures declaration { IfOk result (λ paths. paths.declaration ≡ output_text folder.now stem.now (codes ".d.ts")) }
 {
-    let Some(js) = output_at(alloc, folder, stem, SCRIPT)? else {
-        return Ok(None);
-    };
-    let Some(declaration) = output_at(alloc, folder, stem, DECLARATION)? else {
-        return Ok(None);
-    };
-    Ok(Some(OutputPaths { js, declaration }))
+    Ok(OutputPaths {
+        js: output_at(alloc, folder, stem, SCRIPT)?,
+        declaration: output_at(alloc, folder, stem, DECLARATION)?,
+    })
 }
 
 // The file that a text reads as, where it is plain.
@@ -125,7 +113,7 @@ fn content_of(alloc: Global, text: &[u8], file: &File) -> Result<Content, NoMemo
     })
 }
 
-// The content of the file at a path, where it is within the limit and plain.
+// The content of the file at a path, where it is plain.
 fn content_at(alloc: Global, texts: &Texts, path: &Path) -> Result<Option<Content>, NoMemory>
     ensures found { IfOk result (λ found. IfSome found (λ content. (text : List ℕ) × (file : File) × HasFile texts.now path.now text file
         × (content ≡ record { version = sha text; js = js_text (erase file); declaration = dts_text (surface file) }))) }
@@ -134,9 +122,6 @@ fn content_at(alloc: Global, texts: &Texts, path: &Path) -> Result<Option<Conten
     let Some(text) = texts.get(path) else {
         return Ok(None);
     };
-    if text.len() > MOST_INPUT {
-        return Ok(None);
-    }
     let Some(file) = read_plain(alloc, text.as_slice())? else {
         return Ok(None);
     };
@@ -190,58 +175,40 @@ fn emit_input(
     texts: &Texts,
     root: &Path,
     folder: &Path,
-    path: Path,
+    path: &Path,
 ) -> Result<Option<Emitted>, NoMemory>
-    requires root { root.now ≡ [] }
-    requires folder { folder.now ≡ out_folder }
-    ensures found { IfOk result (λ found. IfSome found (λ each. (source : Source) × IsSource texts.now path source × (each ≡ emitted_of source))) }
-    ensures none { IfOk result (λ found. IsNone found → (source : Source) → IsSource texts.now path source → ⊥) }
+    requires { (stem : List ℕ) → stem_text root.now path.now ≡ Some stem → HasOutputPaths folder.now stem }
+    ensures found { IfOk result (λ found. IfSome found (λ each. (source : Source) × IsSource texts.now root.now path.now source × (each ≡ emitted_of folder.now source))) }
+    ensures none { IfOk result (λ found. IsNone found → (source : Source) → IsSource texts.now root.now path.now source → ⊥) }
 {
-    stems_of_paths();
-    let Some(stem) = stem_of(alloc, root, &path)? else {
+    let Some(stem) = stem_of(alloc, root, path)? else {
         return Ok(None);
     };
-    let Some(paths) = output_paths(alloc, folder, &stem)? else {
+    let Some(content) = content_at(alloc, texts, path)? else {
         return Ok(None);
     };
-    let Some(content) = content_at(alloc, texts, &path)? else {
-        return Ok(None);
-    };
-    Ok(Some(put_together(alloc, path, stem, paths, content)))
+    let paths = output_paths(alloc, folder, &stem)?;
+    Ok(Some(put_together(alloc, path.clone()?, stem, paths, content)))
 }
 
-// What is made of the inputs at these paths, where they are sources.
-fn emit_inputs(
+/// What is made of the inputs at these paths, in an output folder, where all are sources.
+pub fn emit_inputs(
     alloc: Global,
     texts: &Texts,
-    paths: List<Path>,
+    root: &Path,
+    folder: &Path,
+    paths: &[Path],
 ) -> Result<Option<List<Emitted>>, NoMemory>
-    ensures found { IfOk result (λ found. IfSome found (λ emitted. (sources : List Source) × AreSources texts.now paths sources × (emitted ≡ map emitted_of sources))) }
-    ensures none { IfOk result (λ found. IsNone found → (sources : List Source) → AreSources texts.now paths sources → ⊥) }
+    requires { HaveOutputPaths root.now folder.now paths.now }
+    ensures found { IfOk result (λ found. IfSome found (λ emitted. (sources : List Source) × AreSources texts.now root.now paths.now sources × (emitted ≡ map (emitted_of folder.now) sources))) }
+    ensures none { IfOk result (λ found. IsNone found → (sources : List Source) → AreSources texts.now root.now paths.now sources → ⊥) }
 {
-    let root = root_path(alloc)?;
-    let folder = out_folder(alloc)?;
     let mut emitted = List::new(alloc);
-    for path in paths.into_vec() {
-        let Some(each) = emit_input(alloc, texts, &root, &folder, path)? else {
+    for path in paths {
+        let Some(each) = emit_input(alloc, texts, root, folder, path)? else {
             return Ok(None);
         };
         emitted.push(each)?;
     }
     Ok(Some(emitted))
-}
-
-/// What is made of the inputs of the one project, ascending by path; none where the texts are not those of one.
-pub fn emit_project(alloc: Global, texts: &Texts) -> Result<Option<List<Emitted>>, NoMemory>
-    ensures found { IfOk result (λ found. IfSome found (λ emitted. (sources : List Source) × IsProject texts.now sources × (emitted ≡ map emitted_of sources))) }
-    ensures none { IfOk result (λ found. IsNone found → (sources : List Source) → IsProject texts.now sources → ⊥) }
-{
-    if !has_config(alloc, texts)? {
-        return Ok(None);
-    }
-    let paths = inputs(alloc, texts)?;
-    if paths.is_empty() || paths.len() > MOST_INPUTS || !are_small(texts, paths.as_slice()) {
-        return Ok(None);
-    }
-    emit_inputs(alloc, texts, paths)
 }

@@ -1,13 +1,15 @@
-ghost use Rattle.std.specs.Prelude.{◌≡◌, map, is_some, string_bytes};
-ghost use Rattle.tb_session.specs.Commands.{command_of};
+ghost use Rattle.std.specs.Prelude.{◌≡◌};
+ghost use Rattle.tb_session.specs.Commands.{is_served};
 
-/// Whether this version builds what the words ask for: no word, or `-b` or `--build` alone.
-pub fn is_served(words: &[String]) -> bool
-    ensures { result ≡ is_some (command_of (map string_bytes words.now)) }
+use tb_words::Command;
+
+/// Whether this version builds what a command asks for: a plain build of the workspace.
+pub fn is_served(command: &Command) -> bool
+    ensures { result ≡ is_served command.now }
 {
-    match words {
-        [] => true,
-        [word] => word.as_str() == "-b" || word.as_str() == "--build",
-        [_, _, ..] => false,
-    }
+    !(command.force
+        || command.clean
+        || command.dry
+        || command.watch
+        || command.gen_number.is_some())
 }

@@ -1,7 +1,6 @@
-use Rattle.std.proofs.Common.{◌≡◌, List, map}
-use Rattle.tb_session.specs.Sources.{Source, AreSources}
-use Rattle.tb_session.specs.Emitted.{emitted_of}
+use Rattle.std.proofs.Common.{take}
+use Rattle.tb_session.proofs.Reading.{AreEmitted}
 use Rattle.tb_session.proofs.sources.emit_inputs.Given as goal
 
 abbrev pub invariant-loop-path : goal.invariant-loop-path
-invariant-loop-path l = (sources : List Source) × AreSources l.texts l.yielded sources × (l.emitted ≡ map emitted_of sources)
+invariant-loop-path l = AreEmitted l.texts l.root l.folder (take l.path-index l.paths) l.emitted

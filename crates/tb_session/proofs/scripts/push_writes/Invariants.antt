@@ -1,0 +1,5 @@
+use Rattle.std.proofs.Common.{◌≡◌, ◌++◌, ◌∷◌, [], flat_map}
+use Rattle.tb_session.proofs.scripts.push_writes.Given as goal
+
+abbrev pub invariant-loop-own : goal.invariant-loop-own
+invariant-loop-own l = l.steps ≡ l.fn.steps ++ flat_map (λ own. own.js ∷ own.declaration ∷ []) l.yielded
