@@ -37,7 +37,7 @@ module _ (ordered : Bool) where
 
   -- `a < a < a` groups to the left
   left_join : g.IsLevel ordered 4 (a 0 ∷ Mark m.Less 2 ∷ a 4 ∷ Mark m.Less 6 ∷ a 8 ∷ [])
-      (expr.Binary 0 binary.Less (expr.Binary 0 binary.Less (named 0) (named 4)) (named 8)) 3
+      (expr.Binary 0 (expr.Binary 0 (named 0) binary.Less (named 4)) binary.Less (named 8)) 3
   unfolding a
   left_join = g.joined_expr (Mark m.Less 6) (g.joined_expr (Mark m.Less 2) (g.next_level (operand 0)) refl refl (operand 4)) refl refl (operand 8)
 

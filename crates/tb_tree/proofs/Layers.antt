@@ -65,10 +65,10 @@ open_expr (Expr-F.Index at base index) = max (expr_depth base) (expr_depth index
 open_expr (Expr-F.Call at callee type_arguments arguments) = max (expr_depth callee) (max (types_depth type_arguments) (exprs_depth arguments)) + 1
 open_expr (Expr-F.Unary at operator operand) = expr_depth operand + 1
 open_expr (Expr-F.Update at operator before target) = expr_depth target + 1
-open_expr (Expr-F.Binary at operator left right) = max (expr_depth left) (expr_depth right) + 1
+open_expr (Expr-F.Binary at left operator right) = max (expr_depth left) (expr_depth right) + 1
 open_expr (Expr-F.As at value shape) = max (expr_depth value) (type_depth shape) + 1
 open_expr (Expr-F.Conditional at condition then otherwise) = max (expr_depth condition) (max (expr_depth then) (expr_depth otherwise)) + 1
-open_expr (Expr-F.Assign at operator target value) = max (expr_depth target) (expr_depth value) + 1
+open_expr (Expr-F.Assign at target operator value) = max (expr_depth target) (expr_depth value) + 1
 open_expr (Expr-F.Arrow at params result of) = max (params_depth params) (max (annotation_depth result) (arrow_body_depth of)) + 1
 
 abbrev pub open_start : ForStart-F ArrowBody BlockItem Clause Expr ForStart Prop Stmt Block Declarator Function Param TemplateSpan Var → ℕ
@@ -158,10 +158,10 @@ expr_opened (Expr-F.Index at base index) = refl
 expr_opened (Expr-F.Call at callee type_arguments arguments) = refl
 expr_opened (Expr-F.Unary at operator operand) = refl
 expr_opened (Expr-F.Update at operator before target) = refl
-expr_opened (Expr-F.Binary at operator left right) = refl
+expr_opened (Expr-F.Binary at left operator right) = refl
 expr_opened (Expr-F.As at value shape) = refl
 expr_opened (Expr-F.Conditional at condition then otherwise) = refl
-expr_opened (Expr-F.Assign at operator target value) = refl
+expr_opened (Expr-F.Assign at target operator value) = refl
 expr_opened (Expr-F.Arrow at params result of) = refl
 
 pub expr_out : (of : Expr) → expr_depth of ≡ open_expr (out-Expr of)
@@ -333,8 +333,8 @@ unary_expr at operator operand = expr_out _ ∙ ap open_expr (expr.outs-Unary at
 pub update_expr : (at : ℕ) (operator : UpdateOperator) (before : Bool) (target : Expr) → expr_depth (expr.Update at operator before target) ≡ expr_depth target + 1
 update_expr at operator before target = expr_out _ ∙ ap open_expr (expr.outs-Update at operator before target)
 
-pub binary_expr : (at : ℕ) (operator : BinaryOperator) (left : Expr) (right : Expr) → expr_depth (expr.Binary at operator left right) ≡ max (expr_depth left) (expr_depth right) + 1
-binary_expr at operator left right = expr_out _ ∙ ap open_expr (expr.outs-Binary at operator left right)
+pub binary_expr : (at : ℕ) (left : Expr) (operator : BinaryOperator) (right : Expr) → expr_depth (expr.Binary at left operator right) ≡ max (expr_depth left) (expr_depth right) + 1
+binary_expr at left operator right = expr_out _ ∙ ap open_expr (expr.outs-Binary at left operator right)
 
 pub as_expr : (at : ℕ) (value : Expr) (shape : TypeExpr) → expr_depth (expr.As at value shape) ≡ max (expr_depth value) (type_depth shape) + 1
 as_expr at value shape = expr_out _ ∙ ap open_expr (expr.outs-As at value shape)
@@ -342,8 +342,8 @@ as_expr at value shape = expr_out _ ∙ ap open_expr (expr.outs-As at value shap
 pub conditional_expr : (at : ℕ) (condition : Expr) (then : Expr) (otherwise : Expr) → expr_depth (expr.Conditional at condition then otherwise) ≡ max (expr_depth condition) (max (expr_depth then) (expr_depth otherwise)) + 1
 conditional_expr at condition then otherwise = expr_out _ ∙ ap open_expr (expr.outs-Conditional at condition then otherwise)
 
-pub assign_expr : (at : ℕ) (operator : AssignOperator) (target : Expr) (value : Expr) → expr_depth (expr.Assign at operator target value) ≡ max (expr_depth target) (expr_depth value) + 1
-assign_expr at operator target value = expr_out _ ∙ ap open_expr (expr.outs-Assign at operator target value)
+pub assign_expr : (at : ℕ) (target : Expr) (operator : AssignOperator) (value : Expr) → expr_depth (expr.Assign at target operator value) ≡ max (expr_depth target) (expr_depth value) + 1
+assign_expr at target operator value = expr_out _ ∙ ap open_expr (expr.outs-Assign at target operator value)
 
 pub arrow_expr : (at : ℕ) (params : List Param) (result : Option TypeExpr) (of : ArrowBody) → expr_depth (expr.Arrow at params result of) ≡ max (params_depth params) (max (annotation_depth result) (arrow_body_depth of)) + 1
 arrow_expr at params result of = expr_out _ ∙ ap open_expr (expr.outs-Arrow at params result of)

@@ -127,10 +127,10 @@ bare_expr_layer (Expr-F.Index at base index) = expr.Index 0 base index
 bare_expr_layer (Expr-F.Call at callee type_arguments arguments) = expr.Call 0 callee (map bare_type type_arguments) arguments
 bare_expr_layer (Expr-F.Unary at operator operand) = expr.Unary 0 operator operand
 bare_expr_layer (Expr-F.Update at operator before target) = expr.Update 0 operator before target
-bare_expr_layer (Expr-F.Binary at operator left right) = expr.Binary 0 operator left right
+bare_expr_layer (Expr-F.Binary at left operator right) = expr.Binary 0 left operator right
 bare_expr_layer (Expr-F.As at value shape) = expr.As 0 value (bare_type shape)
 bare_expr_layer (Expr-F.Conditional at condition then otherwise) = expr.Conditional 0 condition then otherwise
-bare_expr_layer (Expr-F.Assign at operator target value) = expr.Assign 0 operator target value
+bare_expr_layer (Expr-F.Assign at target operator value) = expr.Assign 0 target operator value
 bare_expr_layer (Expr-F.Arrow at params result of) = expr.Arrow 0 params (bare_annotation result) of
 
 abbrev pub bare_start_layer : ForStart-F ArrowBody BlockItem Clause Expr ForStart Prop Stmt Block Declarator Function Param TemplateSpan Var → ForStart

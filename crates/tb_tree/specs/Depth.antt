@@ -123,10 +123,10 @@ expr_layer (Expr-F.Index at base index) = max base index + 1
 expr_layer (Expr-F.Call at callee type_arguments arguments) = max callee (max (types_depth type_arguments) (greatest arguments)) + 1
 expr_layer (Expr-F.Unary at operator operand) = operand + 1
 expr_layer (Expr-F.Update at operator before target) = target + 1
-expr_layer (Expr-F.Binary at operator left right) = max left right + 1
+expr_layer (Expr-F.Binary at left operator right) = max left right + 1
 expr_layer (Expr-F.As at value shape) = max value (type_depth shape) + 1
 expr_layer (Expr-F.Conditional at condition then otherwise) = max condition (max then otherwise) + 1
-expr_layer (Expr-F.Assign at operator target value) = max target value + 1
+expr_layer (Expr-F.Assign at target operator value) = max target value + 1
 expr_layer (Expr-F.Arrow at params result of) = max (greatest params) (max (annotation_depth result) of) + 1
 
 abbrev pub start_layer : ForStart-F ℕ ℕ ℕ ℕ ℕ ℕ ℕ ℕ ℕ ℕ ℕ ℕ ℕ → ℕ

@@ -218,7 +218,7 @@ module _ (ordered : Bool) where
           (expr.Arrow at (roll-Param (record { at = at; name = spelled; optional = false; annotation = None; value = None }) ∷ []) None of) (d + 1)
       assign_expr : {typed : Bool} (s : Sym) {operator : AssignOperator} {xs ys : List Sym} {target value : Expr} {d e : ℕ}
           → IsChain xs target d → is_target target ≡ true → assign_of s ≡ Some operator → IsExpr typed ys value e
-          → IsExpr typed (xs ++ s ∷ ys) (expr.Assign (start_of xs) operator target value) (max d e + 1)
+          → IsExpr typed (xs ++ s ∷ ys) (expr.Assign (start_of xs) target operator value) (max d e + 1)
       cond_expr : {typed : Bool} {xs : List Sym} {of : Expr} {d : ℕ} → IsCond typed xs of d → IsExpr typed xs of d
 
     -- what follows `=>`: Block, or Expr not beginning with `{`
@@ -263,9 +263,9 @@ module _ (ordered : Bool) where
     -- Eq joined by at least one `??`
     pub data IsNullish : List Sym → Expr → ℕ → Type 0 where
       first_nullish : (at : ℕ) {xs ys : List Sym} {left right : Expr} {d e : ℕ} → IsLevel eq_level xs left d → IsLevel eq_level ys right e
-          → IsNullish (xs ++ Mark m.Nullish at ∷ ys) (expr.Binary (start_of xs) binary.Nullish left right) (max d e + 1)
+          → IsNullish (xs ++ Mark m.Nullish at ∷ ys) (expr.Binary (start_of xs) left binary.Nullish right) (max d e + 1)
       next_nullish : (at : ℕ) {xs ys : List Sym} {left right : Expr} {d e : ℕ} → IsNullish xs left d → IsLevel eq_level ys right e
-          → IsNullish (xs ++ Mark m.Nullish at ∷ ys) (expr.Binary (start_of xs) binary.Nullish left right) (max d e + 1)
+          → IsNullish (xs ++ Mark m.Nullish at ∷ ys) (expr.Binary (start_of xs) left binary.Nullish right) (max d e + 1)
 
     -- And, Eq, Rel, Add and Mul, and the first form of Or: operands of the next level joined by the operators of this one. At the level
     -- of Rel, `as Type` may follow an operand in place of an operator with a further one. Above Mul stands Unary.
@@ -274,7 +274,7 @@ module _ (ordered : Bool) where
       next_level : {l : ℕ} {xs : List Sym} {of : Expr} {d : ℕ} → IsLevel (suc l) xs of d → IsLevel l xs of d
       joined_expr : {l : ℕ} (s : Sym) {operator : BinaryOperator} {xs ys : List Sym} {left right : Expr} {d e : ℕ}
           → IsLevel l xs left d → binary_of s ≡ Some operator → strength operator ≡ l → IsLevel (suc l) ys right e
-          → IsLevel l (xs ++ s ∷ ys) (expr.Binary (start_of xs) operator left right) (max d e + 1)
+          → IsLevel l (xs ++ s ∷ ys) (expr.Binary (start_of xs) left operator right) (max d e + 1)
       as_expr : {l : ℕ} (spelled : List ℕ) (at : ℕ) {xs ys : List Sym} {of : Expr} {shape : TypeExpr} {d own e : ℕ}
           → l ≡ rel_level → IsLevel l xs of d → IsType ys shape own e → own ≤ max_depth
           → IsLevel l (xs ++ word w.As spelled at ∷ ys) (expr.As (start_of xs) of shape) (max d e + 1)

@@ -145,8 +145,8 @@ pub enum Expr {
     },
     Binary {
         at: usize,
-        operator: BinaryOperator,
         left: Boxed<Expr>,
+        operator: BinaryOperator,
         right: Boxed<Expr>,
     },
     As {
@@ -162,8 +162,8 @@ pub enum Expr {
     },
     Assign {
         at: usize,
-        operator: AssignOperator,
         target: Boxed<Expr>,
+        operator: AssignOperator,
         value: Boxed<Expr>,
     },
     Arrow {
