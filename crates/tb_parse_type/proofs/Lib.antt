@@ -1,0 +1,14 @@
+mod Answering
+mod Atoms
+mod Depths
+mod Elements
+mod Items
+mod Joins
+mod Lists
+mod Members
+mod Readings
+mod Rulings
+mod Spellings
+mod Tokens
+mod Types
+mod Unions

@@ -1,0 +1,5 @@
+pub mod Fronts
+pub mod Nests
+pub mod Reading
+pub mod Rules
+pub mod Symbols
