@@ -168,185 +168,101 @@ fn shown(alloc: Global, text: &str, at: usize, places: bool) -> Result<String, F
     Ok(out)
 }
 
-// a text, and what is read of it
-const ROWS: &str = r#"
-any | unknown | never | number | string | boolean | void | null | undefined | true | false
-21 union(any;unknown;never;number;string;boolean;void;null;undefined;true;false;)
-A
-1 A
-as
-1 as
-'x'
-1 'x'
-"x\"y"
-1 "x\"y"
--1
-2 -1
-- 12
-2 -12
--0
--
-0
-1 0
-123456789012345
-1 123456789012345
-1234567890123456
--
--123456789012345
-2 -123456789012345
--1234567890123456
--
-01
--
-1.5
--
-1e3
--
-0x1
--
-+1
--
-`a`
--
-class
--
-typeof a
--
-number[]
-3 array(number)
-a[][]
-5 array(array(a))
-readonly a[][]
-6 readonly(array(a))
-readonly
-1 readonly
-readonly a
-1 readonly
-readonly[]
-3 array(readonly)
-readonly readonly[]
-4 readonly(readonly)
-readonly { a: b }[]
-8 readonly(object(a: b;))
-readonly { a: b }
-1 readonly
-readonly (a | b)[]
-8 readonly(union(a;b;))
-| a
-2 a
-| a | b
-4 union(a;b;)
-| | a
--
-a |
-1 a
-a | | b
-1 a
-a || b
-1 a
-(a | b) | c
-7 union(a;b;c;)
-a | (b | (| c | d))
-12 union(a;b;c;d;)
-(a | b)[] | c
-9 union(array(union(a;b;));c;)
-((a))
-5 a
-(() => a)[]
-8 array(function(=> a))
-a | (() => b)
-8 union(a;function(=> b);)
-() => a | b
-6 function(=> union(a;b;))
-a | () => b
-1 a
-(a?: T, b: U,) => R
-13 function(a?: T; b: U; => R)
-(any: any, readonly?: readonly) => void
-12 function(any: any; readonly?: readonly; => void)
-(a: b) => (c: d) => e
-13 function(a: b; => function(c: d; => e))
-(a) => b
-3 a
-(a: b)
--
-()
--
-(a, b)
--
-(, ) => a
--
-(class: a) => b
--
-(a: b) c
--
-{}
-2 object()
-{ a: b }
-5 object(a: b;)
-{ a: b; }
-6 object(a: b;)
-{ a: b, c: d; }
-10 object(a: b;c: d;)
-{ ; }
--
-{ a: b;; }
--
-{ a: b c: d }
--
-{ readonly: number }
-5 object(readonly: number;)
-{ readonly readonly: T; "k"?: T, m?(): R }
-18 object(readonly readonly: T;"k"?: T;m?(=> R);)
-{ readonly?: a; readonly(): b; 'x'(c: d): e }
-21 object(readonly?: a;readonly(=> b);'x'(c: d; => e);)
-{ readonly "k"?: a }
-7 object(readonly "k"?: a;)
-{ readonly m(): a }
--
-{ class: a }
-5 object(class: a;)
-{ 1: a }
--
-{ a }
--
-{ a: }
--
-{ m() }
--
-{ m(b): c }
--
-{ a: b
--
-{ a: { b: c }[]; d: (e: f) => g }
-21 object(a: array(object(b: c;));d: function(e: f; => g);)
-{ a: readonly b[] }
-8 object(a: readonly(b);)
-number[
-1 number
-number[1]
-1 number
-a.b
-1 a
-a<b>
-1 a
-a b
-1 a
-]
--
+// A text and what is read of it, with a `~` between.
+const ROWS: &str =
+    r#"any | unknown | never | number | string | boolean | void | null | undefined | true | false~21 union(any;unknown;never;number;string;boolean;void;null;undefined;true;false;)
+A~1 A
+as~1 as
+'x'~1 'x'
+"x\"y"~1 "x\"y"
+-1~2 -1
+- 12~2 -12
+-0~-
+0~1 0
+123456789012345~1 123456789012345
+1234567890123456~-
+-123456789012345~2 -123456789012345
+-1234567890123456~-
+01~-
+1.5~-
+1e3~-
+0x1~-
++1~-
+`a`~-
+class~-
+typeof a~-
+number[]~3 array(number)
+a[][]~5 array(array(a))
+readonly a[][]~6 readonly(array(a))
+readonly~1 readonly
+readonly a~1 readonly
+readonly[]~3 array(readonly)
+readonly readonly[]~4 readonly(readonly)
+readonly { a: b }[]~8 readonly(object(a: b;))
+readonly { a: b }~1 readonly
+readonly (a | b)[]~8 readonly(union(a;b;))
+| a~2 a
+| a | b~4 union(a;b;)
+| | a~-
+a |~1 a
+a | | b~1 a
+a || b~1 a
+(a | b) | c~7 union(a;b;c;)
+a | (b | (| c | d))~12 union(a;b;c;d;)
+(a | b)[] | c~9 union(array(union(a;b;));c;)
+((a))~5 a
+(() => a)[]~8 array(function(=> a))
+a | (() => b)~8 union(a;function(=> b);)
+() => a | b~6 function(=> union(a;b;))
+a | () => b~1 a
+(a?: T, b: U,) => R~13 function(a?: T; b: U; => R)
+(any: any, readonly?: readonly) => void~12 function(any: any; readonly?: readonly; => void)
+(a: b) => (c: d) => e~13 function(a: b; => function(c: d; => e))
+(a) => b~3 a
+(a: b)~-
+()~-
+(a, b)~-
+(, ) => a~-
+(class: a) => b~-
+(a: b) c~-
+{}~2 object()
+{ a: b }~5 object(a: b;)
+{ a: b; }~6 object(a: b;)
+{ a: b, c: d; }~10 object(a: b;c: d;)
+{ ; }~-
+{ a: b;; }~-
+{ a: b c: d }~-
+{ readonly: number }~5 object(readonly: number;)
+{ readonly readonly: T; "k"?: T, m?(): R }~18 object(readonly readonly: T;"k"?: T;m?(=> R);)
+{ readonly?: a; readonly(): b; 'x'(c: d): e }~21 object(readonly?: a;readonly(=> b);'x'(c: d; => e);)
+{ readonly "k"?: a }~7 object(readonly "k"?: a;)
+{ readonly m(): a }~-
+{ class: a }~5 object(class: a;)
+{ 1: a }~-
+{ a }~-
+{ a: }~-
+{ m() }~-
+{ m(b): c }~-
+{ a: b~-
+{ a: { b: c }[]; d: (e: f) => g }~21 object(a: array(object(b: c;));d: function(e: f; => g);)
+{ a: readonly b[] }~8 object(a: readonly(b);)
+number[~1 number
+number[1]~1 number
+a.b~1 a
+a<b>~1 a
+a b~1 a
+]~-
 "#;
 
 #[test]
 fn reads_the_longest_front(rt: HostRuntime) -> Result<(), Fail> {
-    let mut text = "";
     for line in ROWS.lines() {
-        if text.is_empty() {
-            text = line;
-        } else {
-            let found = shown(rt.alloc(), text, 0, false)?;
-            assert_eq!(rt; found.as_str(), line, "{text}");
-            text = "";
-        }
+        let (text, wanted) = match line.split_once('~') {
+            Some(row) => row,
+            None => (line, ""),
+        };
+        let found = shown(rt.alloc(), text, 0, false)?;
+        assert_eq!(rt; found.as_str(), wanted, "{text}");
     }
     Ok(())
 }
