@@ -28,7 +28,7 @@ pub struct MemberHead {
 
 impl Limits {
     /// The limits within a type node.
-    pub fn inside(self) -> Limits
+    pub(crate) fn inside(self) -> Limits
         ensures { result ≡ rules.inside self }
     {
         Limits {
@@ -38,7 +38,7 @@ impl Limits {
     }
 
     /// The limits within parentheses round a type.
-    pub fn in_parens(self) -> Limits
+    pub(crate) fn in_parens(self) -> Limits
         ensures { result ≡ rules.in_parens self }
     {
         Limits {
@@ -48,14 +48,14 @@ impl Limits {
     }
 
     /// Whether both counts are less.
-    pub fn has_room(self, own: usize, depth: usize) -> bool
+    pub(crate) fn has_room(self, own: usize, depth: usize) -> bool
         ensures { MatchBool result ((own < self.own) × (depth < self.depth)) (own < self.own → depth < self.depth → ⊥) }
     {
         own < self.own && depth < self.depth
     }
 
     /// Whether the counts of a type that is not read flat are beyond the limits.
-    pub fn is_beyond(self, of: &TypeExpr, own: usize, depth: usize) -> bool
+    pub(crate) fn is_beyond(self, of: &TypeExpr, own: usize, depth: usize) -> bool
         ensures { MatchBool result
             ((rules.is_union of.now ≡ false) × (rules.Fits self own depth → ⊥))
             (rules.is_union of.now ≡ false → rules.Fits self own depth) }
@@ -67,7 +67,7 @@ impl Limits {
     }
 
     /// By how much both counts may grow.
-    pub fn room(self, own: usize, depth: usize) -> usize
+    pub(crate) fn room(self, own: usize, depth: usize) -> usize
         ensures { result ≡ min (self.own - own) (self.depth - depth) }
     {
         smaller(
@@ -139,7 +139,7 @@ impl Reader<'_> {
     }
 
     /// How many pairs of brackets stand at a place, as far as there is room, and the first place behind them.
-    pub fn brackets(&self, at: usize, room: usize) -> (usize, usize)
+    pub(crate) fn brackets(&self, at: usize, room: usize) -> (usize, usize)
         requires { at ≤ length self.now.tokens.now }
         ensures { FoundAt (rules.BracketsUpto room) rules.InElement self.now at result.0 result.1 }
     {
@@ -156,7 +156,7 @@ impl Reader<'_> {
     }
 
     /// Arrays of arrays, so many, which all begin at one offset.
-    pub fn arrays(&self, at: usize, of: TypeExpr, count: usize) -> Result<TypeExpr, NoMemory>
+    pub(crate) fn arrays(&self, at: usize, of: TypeExpr, count: usize) -> Result<TypeExpr, NoMemory>
         ensures { IfOk result (λ tree. tree ≡ types.arrays at count of) }
     {
         let mut tree = of;
@@ -223,7 +223,7 @@ impl Reader<'_> {
     }
 
     /// A type that is one token.
-    pub fn single_at(
+    pub(crate) fn single_at(
         &self,
         at: usize,
         class: Class,
@@ -258,7 +258,11 @@ impl Reader<'_> {
     }
 
     /// `-` with an integer.
-    pub fn minus_at(&self, at: usize, limits: Limits) -> Result<Option<Read<TypeExpr>>, NoMemory>
+    pub(crate) fn minus_at(
+        &self,
+        at: usize,
+        limits: Limits,
+    ) -> Result<Option<Read<TypeExpr>>, NoMemory>
         requires own { 0 < limits.own }
         requires depth { 0 < limits.depth }
         requires stands { Stands self.now at (sym.Mark Mark.Minus (start_at self.now at)) }
@@ -282,7 +286,7 @@ impl Reader<'_> {
     }
 
     /// Whether the mark `?` stands at a place, and the place behind it.
-    pub fn question(&self, at: usize) -> (bool, usize)
+    pub(crate) fn question(&self, at: usize) -> (bool, usize)
         requires { at ≤ length self.now.tokens.now }
         ensures { FoundAt (shapes.IsMarked Mark.Question) rules.InQuestion self.now at result.0 result.1 }
     {
@@ -294,7 +298,7 @@ impl Reader<'_> {
     }
 
     /// Whether a method goes on at a place, behind its head.
-    pub fn has_method(&self, at: usize, read_only: bool) -> bool
+    pub(crate) fn has_method(&self, at: usize, read_only: bool) -> bool
         ensures { MatchBool result
             ((read_only ≡ false) × Stands self.now at (sym.Mark Mark.OpenParen (start_at self.now at)))
             (read_only ≡ false → (o : ℕ) → LacksSym self.now at (sym.Mark Mark.OpenParen o)) }
@@ -333,7 +337,7 @@ impl Reader<'_> {
     }
 
     /// A key, and whether `readonly` stands before it.
-    pub fn head_at(&self, at: usize) -> Result<Option<MemberHead>, NoMemory>
+    pub(crate) fn head_at(&self, at: usize) -> Result<Option<MemberHead>, NoMemory>
         ensures { IfOk result (λ o. ReadsHead self.now at o) }
     {
         if let Some(key) = self.modified_key_at(at)? {
