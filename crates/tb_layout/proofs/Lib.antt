@@ -1,0 +1,5 @@
+pub mod Baring
+pub mod Erasing
+pub mod Laying
+pub mod Steadying
+pub mod Written

@@ -1,0 +1,4 @@
+pub mod Erase
+pub mod Js
+pub mod Pieces
+pub mod Steady
