@@ -1,4 +1,6 @@
-use crate::{Limits, MAX_COUNT, Reader, read_type, type_at, type_members_at, type_params_at};
+use crate::{
+    Limits, MAX_COUNT, ReadFault, Reader, read_type, type_at, type_members_at, type_params_at,
+};
 use std::alloc::{AllocError, Global};
 use std::rt::HostRuntime;
 use std::test::Fail;
@@ -163,7 +165,8 @@ fn shown(alloc: Global, text: &str, at: usize, places: bool) -> Result<String, F
             write!(out, "{next} ")?;
             show(&mut out, &of, places)?;
         }
-        Err(_) => out.push_str("-")?,
+        Err(ReadFault::NotDerived) => out.push_str("-")?,
+        Err(ReadFault::NoMemory) => out.push_str("?")?,
     }
     Ok(out)
 }
@@ -325,7 +328,8 @@ fn end_of(alloc: Global, text: &str) -> Result<usize, Fail> {
     let tokens = scan(alloc, text)?;
     match read_type(alloc, tokens.as_slice(), text, 0) {
         Ok((_, next)) => Ok(next),
-        Err(_) => Ok(0),
+        Err(ReadFault::NotDerived) => Ok(0),
+        Err(ReadFault::NoMemory) => Ok(usize::MAX),
     }
 }
 

@@ -1,0 +1,12 @@
+pub mod Bodies
+pub mod Elses
+pub mod Fronts
+pub mod Given
+pub mod ItemReadings
+pub mod Joins
+pub mod Links
+pub mod Nests
+pub mod Reading
+pub mod Rules
+pub mod Starts
+pub mod Stems
