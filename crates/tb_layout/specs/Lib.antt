@@ -1,4 +1,5 @@
 pub mod Erase
 pub mod Js
+pub mod Laws
 pub mod Pieces
 pub mod Steady

@@ -1,11 +1,10 @@
 -- The pieces of a text: tokens, and the blanks between them.
-use Rattle.std.specs.Prelude.{ℕ, ◌+◌, List, [], ◌∷◌, ◌++◌, length, codes, flat_map}
+use Rattle.std.specs.Prelude.{ℕ, List, [], ◌∷◌, ◌++◌, codes, flat_map}
 use Rattle.std.specs.List.{repeat}
 use Rattle.tb_tree.specs.declared.marks.Mark as marks
 use Rattle.tb_tree.specs.declared.marks.Mark.TheVariants as m
 use Rattle.tb_tree.specs.declared.words.Class as classes
 use Rattle.tb_tree.specs.declared.words.Class.TheVariants as c
-use Rattle.tb_tree.specs.Sym as sym
 use Rattle.tb_tree.specs.Words.{word_of}
 
 pub data Piece : Type 0 where
@@ -59,13 +58,6 @@ piece_text (Blank blanks) = blanks
 
 abbrev pub text_of : List Piece → List ℕ
 text_of pieces = flat_map piece_text pieces
-
--- the symbols of a text that begins at an offset
-abbrev pub symbols_of : ℕ → List Piece → List sym.Sym
-symbols_of at [] = []
-symbols_of at (Mark kind ∷ rest) = sym.Mark kind at ∷ symbols_of (at + length (mark_text kind)) rest
-symbols_of at (Lex class spelled ∷ rest) = sym.Lex class spelled at ∷ symbols_of (at + length spelled) rest
-symbols_of at (Blank blanks ∷ rest) = symbols_of (at + length blanks) rest
 
 -- ---- pieces that layouts are made of
 

@@ -2,10 +2,11 @@
 //! both are used.
 #![tactic(auto)]
 
-ghost use Rattle.tb_layout.specs.Js as layout;
-ghost use Rattle.std.specs.Prelude.{◌≡◌};
+ghost use Rattle.tb_layout.specs.Laws.{CastsLeaveNothing, TypeArgumentsLeaveNothing, AnnotationsLeaveNothing};
 
-/// Does nothing; its proof uses the lemmas, so that each is checked.
-pub fn definitions()
-    ensures { layout.js_text ≡ layout.js_text }
+/// What types leave in JavaScript: nothing. `v as T` is written as `v` is, `f<T>(a)` as `f(a)`, and `a: T = v` as `a = v`.
+pub fn types_leave_nothing()
+    ensures casts { CastsLeaveNothing }
+    ensures arguments { TypeArgumentsLeaveNothing }
+    ensures annotations { AnnotationsLeaveNothing }
 {}

@@ -1,0 +1,23 @@
+-- By the equations; one of each further file of them is named, so that each file is checked.
+use Rattle.std.proofs.Common.{[], None, sym, ◌∙◌}
+use Rattle.tb_layout.proofs.Baring as baring
+use Rattle.tb_layout.proofs.Erasing as erasing
+use Rattle.tb_layout.proofs.Laying as laying
+use Rattle.tb_layout.proofs.Steadying as steadying
+use Rattle.tb_layout.proofs.Written as written
+use Rattle.tb_layout.proofs.types_leave_nothing.Goals as goal
+
+pub returns-clause-casts : goal.returns-clause-casts
+returns-clause-casts c =
+    let of_bare = baring.this_expr in
+    let of_erased = erasing.this_expr in
+    let of_laid = laying.this_expr in
+    let of_steady = steadying.this_expr in
+    written.as_expr
+
+pub returns-clause-arguments : goal.returns-clause-arguments
+returns-clause-arguments c = λ at callee types arguments n. written.call_expr at callee types arguments n ∙ sym (written.call_expr at callee [] arguments n)
+
+pub returns-clause-annotations : goal.returns-clause-annotations
+returns-clause-annotations c = λ at name annotation value n. written.declarator_rolled (record { at = at; name = name; annotation = annotation; value = value }) n
+    ∙ sym (written.declarator_rolled (record { at = at; name = name; annotation = None; value = value }) n)
