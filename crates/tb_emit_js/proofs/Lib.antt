@@ -1,4 +1,9 @@
-pub mod Commas
-pub mod Placed
-pub mod Items
-pub mod ReadsBack
+pub mod Arms
+pub mod BlockForms
+pub mod Bodies
+pub mod Firsts
+pub mod Forms
+pub mod Growing
+pub mod Joins
+pub mod Lines
+pub mod Prefixes

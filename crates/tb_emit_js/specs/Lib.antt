@@ -1,2 +1,3 @@
-pub mod Symbols
-pub mod Law
+pub mod Items
+pub mod Lines
+pub mod Signs

@@ -1,10 +1,14 @@
 //! The layout of JavaScript.
 #![tactic(auto)]
 
-mod laws;
+mod classes;
+mod items;
 mod layout;
+mod names;
+mod signs;
+mod texts;
+mod trees;
 
-pub use laws::js_reads_back;
 pub use layout::js;
 
 #[cfg(test)]

@@ -1,12 +1,12 @@
 -- Tokens before a byte with which they cannot go on.
-use Rattle.std.proofs.Common.{◌≡◌, ℕ, ◌<◌, ◌≤◌, ◌==◌, Bool, true, false, List, [], ◌∷◌, ◌++◌, length, sym, ap, subst, ◌∙◌, refl, inl, inr, arith, lit<, append_assoc, length-append}
+use Rattle.std.proofs.Common.{◌≡◌, ℕ, ◌<◌, ◌≤◌, ◌==◌, Bool, true, false, List, [], ◌∷◌, ◌++◌, length, sym, ap, subst, ◌∙◌, refl, inl, inr, arith, lit<, lit≤, append_assoc, length-append}
 use Rattle.std.specs.Prelude.{◌&&◌, ◌||◌, not, nat_lt, encode_utf8, Option, Some, None, if◌then◌else◌, ◌⊎◌}
 use Rattle.std.specs.List.{list_all}
 use Rattle.std.specs.Str.{bytes_eq}
 use Rattle.std.proofs.lemmas.Bool.{eqb-true, cases_Bool, cases_lt}
 use Rattle.std.proofs.lemmas.Bool.Decides.{nat_tests}
 use Rattle.std.proofs.lemmas.Str.{encode_same, encode_ascii}
-use Rattle.tb_scan.specs.declared.inside.Inside.TheVariants.{Word, Quoted}
+use Rattle.tb_scan.specs.declared.inside.Inside.TheVariants.{Word, Quoted, Template}
 use Rattle.tb_scan.specs.declared.braces.Bracket.{Bracket}
 use Rattle.tb_scan.specs.declared.token.Kind.{Kind}
 use Rattle.tb_scan.specs.declared.token.Kind.TheVariants as k
@@ -14,11 +14,14 @@ use Rattle.tb_scan.specs.Characters.{is_blank, is_word_start, is_quote, is_digit
 use Rattle.tb_scan.specs.Pieces.{Run, Stops, IsPiece, IsSpacing}
 use Rattle.tb_scan.specs.Numbers.{IsNumber, is_whole, is_fraction, is_exponent, is_power, are_digits, base_of}
 use Rattle.tb_scan.specs.Marks.{marks, is_mark}
-use Rattle.tb_scan.specs.Tokens.{IsForm, IsFree, IsToken, in_hole, is_plain_mark, is_glue}
-use Rattle.tb_scan.proofs.TestLemmas.{and_left, and_right, and_both, not_both, differs}
-use Rattle.tb_scan.proofs.Runs.{run_longest}
+use Rattle.tb_scan.specs.Tokens.{IsForm, IsToken, in_hole, is_plain_mark, is_glue}
+use Rattle.tb_scan.proofs.TestLemmas.{and_left, and_right, and_both, not_both}
+use Rattle.tb_scan.proofs.Runs.{run_longest, run_same}
 use Rattle.tb_scan.proofs.Exact.{ascii_first, piece_exact, stops_before, run_equal}
-use Rattle.tb_emit_law.proofs.Firsts.{First, form_first, number_first, first_test, clash, apart, below, is_word, is_start, is_part, is_decimal, start_ascii, part_ascii, all_from}
+use Rattle.tb_scan.proofs.Forms.{kind_group, form_group, of_marks}
+use Rattle.tb_scan.proofs.Templates.{tick_stops, hole_stops, mark_shapes}
+use Rattle.tb_scan.proofs.Reading.{quote_low}
+use Rattle.tb_emit_law.proofs.Firsts.{number_first, clash, apart, below, not_true, nat_same, low_by, by_low, is_part, is_decimal, start_ascii, part_ascii}
 
 -- ---- where nothing stands between tokens
 
@@ -36,6 +39,26 @@ stops_byte b r low solid slash =
     subst (λ x. Stops IsSpacing (x ++ r)) (encode_ascii b low)
     (stops_char b r solid (λ e. let no : (47 == 47) ≡ false = subst (λ x. (x == 47) ≡ false) e slash in let same : true ≡ false = no in cc))
 
+-- a `/` that begins no comment
+no_comment : (e : ℕ) (s p ys : List ℕ) → (e ≡ 47 → ⊥) → (e ≡ 42 → ⊥) → 47 ∷ e ∷ s ≡ p ++ ys → IsSpacing p ys → ⊥
+no_comment e s _ ys line block w (IsSpacing.blank d _ h) = not_both (is_blank d) h (subst (λ x. is_blank x ≡ false) (sym (ascii_first d 47 ys (e ∷ s) (sym w) (lit< tt)).0) refl)
+no_comment e s _ ys line block w (IsSpacing.line body _ run h) = line cc
+no_comment e s _ ys line block w (IsSpacing.block body _ run) = block cc
+
+pub stops_slash : (e : ℕ) (s : List ℕ) → (e ≡ 47 → ⊥) → (e ≡ 42 → ⊥) → Stops IsSpacing (47 ∷ e ∷ s)
+stops_slash e s line block = record { never = λ p ys w h. no_comment e s p ys line block w h }
+
+-- ---- forms of one text
+
+-- what begins with a token's first character begins with a form of its group
+alike : (opened : List Bracket) {kind other : Kind} {t ys u zs : List ℕ} (c : ℕ) (r : List ℕ) → t ++ ys ≡ encode_utf8 c ++ r → IsForm opened kind t ys → IsForm opened other u zs
+    → t ++ ys ≡ u ++ zs → kind_group other ≡ kind_group kind
+alike opened {kind = kind} {other = other} {t = t} {ys = ys} {u = u} {zs = zs} c r e f g w = sym (form_group opened other u zs g c r (sym w ∙ e)) ∙ form_group opened kind t ys f c r e
+
+alike_byte : (opened : List Bracket) {kind other : Kind} {t ys u zs : List ℕ} (b : ℕ) (s : List ℕ) → b < 128 → t ++ ys ≡ b ∷ s → IsForm opened kind t ys → IsForm opened other u zs
+    → t ++ ys ≡ u ++ zs → kind_group other ≡ kind_group kind
+alike_byte opened b s low e f g w = alike opened b s (e ∙ sym (ap (λ x. x ++ s) (encode_ascii b low))) f g w
+
 -- ---- words
 
 -- the text of a word
@@ -50,49 +73,34 @@ pub record IsWordText (t : List ℕ) : Type 0 where
 stops_word : (e : ℕ) (s : List ℕ) → e < 128 → is_part e ≡ false → Stops (IsPiece Word) (e ∷ s)
 stops_word e s low h = stops_before Word e s low (part_ascii e low ∙ h) (λ t. let no : false ≡ true = t in cc)
 
-apart_word : (kind : Kind) → is_word kind ≡ false → apart is_start (first_test kind) ≡ true
-unfolding below
-apart_word k.Word h = let no : true ≡ false = h in cc
-apart_word k.Number h = refl
-apart_word k.Str h = refl
-apart_word k.Whole h = refl
-apart_word k.Head h = refl
-apart_word k.Middle h = refl
-apart_word k.Tail h = refl
-apart_word k.Mark h = refl
-apart_word k.Bad h = refl
+word_longest : (c : ℕ) (more ys : List ℕ) → Run (IsPiece Word) more ys → Stops (IsPiece Word) ys → (opened : List Bracket) {other : Kind} {u zs : List ℕ} → IsForm opened other u zs
+    → kind_group other ≡ 1 → (encode_utf8 c ++ more) ++ ys ≡ u ++ zs → length u ≤ length (encode_utf8 c ++ more)
+word_longest c more ys run stops opened (IsForm.word d rest zs st runs) g w =
+    let both = encode_same c d (more ++ ys) (rest ++ zs) (sym (append_assoc (encode_utf8 c) more ys) ∙ w ∙ append_assoc (encode_utf8 d) rest zs) in
+    let on = run_longest (IsPiece Word) (piece_exact Word) more ys rest zs run stops runs both.1 in
+    omega (arith, ap (λ x. length x) on.longer, length-append rest on.by, length-append (encode_utf8 c) more, length-append (encode_utf8 d) rest, ap (λ x. length (encode_utf8 x)) both.0)
+word_longest c more ys run stops opened (IsForm.number u zs m) g w = absurd (omega (arith, g))
+word_longest c more ys run stops opened (IsForm.string q text zs h runs) g w = absurd (omega (arith, g))
+word_longest c more ys run stops opened (IsForm.whole text zs runs) g w = absurd (omega (arith, g))
+word_longest c more ys run stops opened (IsForm.head text zs runs) g w = absurd (omega (arith, g))
+word_longest c more ys run stops opened (IsForm.middle text zs hole runs) g w = absurd (omega (arith, g))
+word_longest c more ys run stops opened (IsForm.tail text zs hole runs) g w = absurd (omega (arith, g))
+word_longest c more ys run stops opened (IsForm.mark u zs m) g w = absurd (omega (arith, g))
 
--- a word character begins no other form
-no_other : {opened : List Bracket} {kind : Kind} {u zs : List ℕ} (c : ℕ) (r : List ℕ) → is_word_start c ≡ true → IsForm opened kind u zs → is_word kind ≡ false
-    → encode_utf8 c ++ r ≡ u ++ zs → ⊥
-no_other {kind = kind} c r start f other e =
-    let first = form_first f other in
-    let same : c ≡ first.byte = (ascii_first c first.byte r first.rest (e ∙ first.whole) first.low).0 in
-    clash is_start (first_test kind) first.byte (apart_word kind other) first.low
-    (sym (start_ascii first.byte first.low) ∙ ap is_word_start (sym same) ∙ start) first.passes
-
-module _ (opened : List Bracket) (c : ℕ) (more : List ℕ) (e : ℕ) (s : List ℕ) (start : is_word_start c ≡ true) (run : Run (IsPiece Word) more (e ∷ s)) (stops : Stops (IsPiece Word) (e ∷ s)) where
-  word_longest : {other : Kind} {u zs : List ℕ} → IsForm opened other u zs → (encode_utf8 c ++ more) ++ (e ∷ s) ≡ u ++ zs → length u ≤ length (encode_utf8 c ++ more)
-  word_longest (IsForm.word d rest zs st runs) w =
-      let both = encode_same c d (more ++ e ∷ s) (rest ++ zs) (sym (append_assoc (encode_utf8 c) more (e ∷ s)) ∙ w ∙ append_assoc (encode_utf8 d) rest zs) in
-      let on = run_longest (IsPiece Word) (piece_exact Word) more (e ∷ s) rest zs run stops runs both.1 in
-      omega (arith, ap (λ x. length x) on.longer, length-append rest on.by, length-append (encode_utf8 c) more, length-append (encode_utf8 d) rest, ap (λ x. length (encode_utf8 x)) both.0)
-  word_longest f w = absurd (no_other c (more ++ e ∷ s) start f refl (sym (append_assoc (encode_utf8 c) more (e ∷ s)) ∙ w))
-
-free_word : (ys : List ℕ) → IsFree k.Word ys
-free_word ys = record { free = λ n c zs w. absurd cc }
+word_formed : (opened : List Bracket) (c : ℕ) (more ys : List ℕ) → is_word_start c ≡ true → Run (IsPiece Word) more ys → Stops (IsPiece Word) ys → IsToken opened k.Word (encode_utf8 c ++ more) ys
+word_formed opened c more ys start run stops =
+    let own : IsForm opened k.Word (encode_utf8 c ++ more) ys = IsForm.word c more ys start run in
+    IsToken.formed k.Word (encode_utf8 c ++ more) ys
+    (record {
+      form = own;
+      longest = λ other u zs f w. word_longest c more ys run stops opened f (alike opened c (more ++ ys) (append_assoc (encode_utf8 c) more ys) own f w) w;
+    })
+    (record { free = λ n c zs w. absurd cc })
 
 pub word_token : (opened : List Bracket) (t : List ℕ) (e : ℕ) (s : List ℕ) → IsWordText t → e < 128 → is_part e ≡ false → IsToken opened k.Word t (e ∷ s)
 word_token opened t e s word low h =
-    let stops = stops_word e s low h in
     let whole = word.whole in
-    subst (λ x. IsToken opened k.Word x (e ∷ s)) (sym whole)
-    (IsToken.formed k.Word (encode_utf8 word.first ++ word.more) (e ∷ s)
-    (record {
-      form = IsForm.word word.first word.more (e ∷ s) word.start (word.run (e ∷ s));
-      longest = λ other u zs f w. word_longest opened word.first word.more e s word.start (word.run (e ∷ s)) stops f w;
-    })
-    (free_word (e ∷ s)))
+    subst (λ x. IsToken opened k.Word x (e ∷ s)) (sym whole) (word_formed opened word.first word.more (e ∷ s) word.start (word.run (e ∷ s)) (stops_word e s low h))
 
 pub stops_before_word : (t r : List ℕ) → IsWordText t → Stops IsSpacing (t ++ r)
 stops_before_word t r word =
@@ -104,35 +112,45 @@ stops_before_word t r word =
 
 -- ---- numbers
 
--- a byte below 128 that is no `;`
-abbrev pub is_plain_byte : ℕ → Bool
-is_plain_byte c = nat_lt c 128 && not (c == 59)
+-- the bytes that numbers have: letters, digits, `.`, `+` and `-` among them
+abbrev pub in_number : ℕ → Bool
+in_number c = is_part c || ((c == 46) || ((c == 43) || (c == 45)))
 
--- a text of such bytes ends before a `;`
-ends : (t u s zs : List ℕ) → t ++ 59 ∷ s ≡ u ++ zs → list_all is_plain_byte u ≡ true → length u ≤ length t
-ends t [] s zs e h = omega arith
-ends [] (x ∷ u) s zs e h =
-    let same : ◌≡◌ {A = ℕ} 59 x = cc in
-    let never : false ≡ true = ap is_plain_byte same ∙ and_left (is_plain_byte x) (list_all is_plain_byte u) h in absurd cc
-ends (y ∷ t) (x ∷ u) s zs e h =
-    let rest : t ++ 59 ∷ s ≡ u ++ zs = cc in
-    let shorter = ends t u s zs rest (and_right (is_plain_byte x) (list_all is_plain_byte u) h) in omega (arith, shorter)
+abbrev pub is_plain_byte : ℕ → Bool
+is_plain_byte c = nat_lt c 128 && in_number c
+
+-- a text of such bytes ends before any other
+ends : (t u : List ℕ) (e : ℕ) (s zs : List ℕ) → in_number e ≡ false → t ++ e ∷ s ≡ u ++ zs → list_all is_plain_byte u ≡ true → length u ≤ length t
+ends t [] e s zs off w h = omega arith
+ends [] (x ∷ u) e s zs off w h =
+    let same : e ≡ x = cc in
+    absurd (not_both (in_number x) (and_right (nat_lt x 128) (in_number x) (and_left (is_plain_byte x) (list_all is_plain_byte u) h)) (subst (λ v. in_number v ≡ false) same off))
+ends (y ∷ t) (x ∷ u) e s zs off w h =
+    let rest : t ++ e ∷ s ≡ u ++ zs = cc in
+    let shorter = ends t u e s zs off rest (and_right (is_plain_byte x) (list_all is_plain_byte u) h) in omega (arith, shorter)
 
 all_both : (p : ℕ → Bool) (a b : List ℕ) → list_all p a ≡ true → list_all p b ≡ true → list_all p (a ++ b) ≡ true
 all_both p [] b h l = l
 all_both p (x ∷ a) b h l = and_both (p x) (list_all p (a ++ b)) (and_left (p x) (list_all p a) h) (all_both p a b (and_right (p x) (list_all p a) h) l)
 
 digit_byte : (base d : ℕ) → base ≤ 16 → is_digit base d ≡ true → is_plain_byte d ≡ true
-digit_byte base d l h = and_both (nat_lt d 128) (not (d == 59)) (small d h l) (ap not (differs (is_digit base) 59 d (out base l) h))
+unfolding below
+digit_byte base d l h =
+    let low : d < 128 = small d h l in
+    and_both (nat_lt d 128) (in_number d) (by_low d low) (part (cases_Bool (in_number d)) low)
   where
-    out : (base : ℕ) → base ≤ 16 → is_digit base 59 ≡ false
-    out base l = grind (arith, nat_tests)
-
     high : (d base : ℕ) → 123 ≤ d → base ≤ 16 → is_digit base d ≡ true → ⊥
     high d base m l h = grind (arith, nat_tests)
 
-    small : (d : ℕ) → is_digit base d ≡ true → base ≤ 16 → nat_lt d 128 ≡ true
-    small d h l = elim (cases_lt d 123) [ inl less ↦ grind (arith, nat_tests) | inr more ↦ absurd (high d base more l h) ]
+    small : (d : ℕ) → is_digit base d ≡ true → base ≤ 16 → d < 128
+    small d h l = elim (cases_lt d 123) [ inl less ↦ omega (arith, less) | inr more ↦ absurd (high d base more l h) ]
+
+    wider : (d base : ℕ) → base ≤ 16 → is_digit base d ≡ true → is_digit 16 d ≡ true
+    wider d base l h = grind (arith, nat_tests)
+
+    part : (in_number d ≡ true) ⊎ (in_number d ≡ false) → d < 128 → in_number d ≡ true
+    part (inl e) low = e
+    part (inr e) low = absurd (clash (is_digit 16) (λ c. not (in_number c)) d refl low (wider d base l h) (ap not e))
 
 pub digits_bytes : (base : ℕ) (ds : List ℕ) → base ≤ 16 → list_all (is_digit base) ds ≡ true → list_all is_plain_byte ds ≡ true
 digits_bytes base [] l h = refl
@@ -211,56 +229,33 @@ number_bytes (IsNumber.decimal whole fraction exponent w f e) =
     all_both is_plain_byte whole (fraction ++ exponent) (whole_bytes whole w) (all_both is_plain_byte fraction exponent (fraction_bytes fraction f) (exponent_bytes exponent e))
 number_bytes (IsNumber.based letter base ds b h) = based_bytes letter base ds b h
 
-abbrev is_number : Kind → Bool
-is_number k.Number = true
-is_number _ = false
+number_longest : (opened : List Bracket) (t : List ℕ) (e : ℕ) (s : List ℕ) → in_number e ≡ false → {other : Kind} {u zs : List ℕ} → IsForm opened other u zs → kind_group other ≡ 2
+    → t ++ e ∷ s ≡ u ++ zs → length u ≤ length t
+number_longest opened t e s off (IsForm.number u zs m) g w = ends t u e s zs off w (number_bytes m)
+number_longest opened t e s off (IsForm.word d rest zs st runs) g w = absurd (omega (arith, g))
+number_longest opened t e s off (IsForm.string q text zs h runs) g w = absurd (omega (arith, g))
+number_longest opened t e s off (IsForm.whole text zs runs) g w = absurd (omega (arith, g))
+number_longest opened t e s off (IsForm.head text zs runs) g w = absurd (omega (arith, g))
+number_longest opened t e s off (IsForm.middle text zs hole runs) g w = absurd (omega (arith, g))
+number_longest opened t e s off (IsForm.tail text zs hole runs) g w = absurd (omega (arith, g))
+number_longest opened t e s off (IsForm.mark u zs m) g w = absurd (omega (arith, g))
 
-apart_number : (kind : Kind) → is_number kind ≡ false → apart is_decimal (first_test kind) ≡ true
-unfolding below
-apart_number k.Word h = refl
-apart_number k.Number h = let no : true ≡ false = h in cc
-apart_number k.Str h = refl
-apart_number k.Whole h = refl
-apart_number k.Head h = refl
-apart_number k.Middle h = refl
-apart_number k.Tail h = refl
-apart_number k.Mark h = refl
-apart_number k.Bad h = refl
+-- such a byte glues to no number
+byte_free : (e : ℕ) (s : List ℕ) → e < 128 → in_number e ≡ false → (c : ℕ) (zs : List ℕ) → e ∷ s ≡ encode_utf8 c ++ zs → is_glue c ≡ false
+byte_free e s low off c zs w = ap is_glue (ascii_first c e zs s (sym w) low).0 ∙ ap (λ b. b || (e == 46)) (part_ascii e low) ∙ apart_from (is_part e) (e == 46) ((e == 43) || (e == 45)) off
+  where
+    apart_from : (a b c : Bool) → (a || (b || c)) ≡ false → (a || b) ≡ false
+    apart_from true b c h = h
+    apart_from false true c h = h
+    apart_from false false c h = refl
 
--- what begins with a byte of one test is no form of another
-other_first : {opened : List Bracket} {kind : Kind} {u zs xs : List ℕ} (test : ℕ → Bool) → First test xs → IsForm opened kind u zs → is_word kind ≡ false
-    → apart test (first_test kind) ≡ true → xs ≡ u ++ zs → ⊥
-other_first {kind = kind} test at f other p e =
-    let first = form_first f other in
-    let same : at.byte ≡ first.byte = let a = at.whole in let b = first.whole in cc in
-    clash test (first_test kind) first.byte p first.low (ap test (sym same) ∙ at.passes) first.passes
-
--- nor a word, where the test is apart from that of words
-other_word : {xs : List ℕ} (test : ℕ → Bool) (d : ℕ) (r : List ℕ) → First test xs → is_word_start d ≡ true → apart test is_start ≡ true → xs ≡ encode_utf8 d ++ r → ⊥
-other_word test d r at start p e =
-    let same : d ≡ at.byte = (ascii_first d at.byte r at.rest (sym e ∙ at.whole) at.low).0 in
-    clash test is_start at.byte p at.low at.passes (sym (start_ascii at.byte at.low) ∙ ap is_word_start (sym same) ∙ start)
-
-module _ (opened : List Bracket) (t s : List ℕ) (number : IsNumber t) where
-  number_longest : {other : Kind} {u zs : List ℕ} → IsForm opened other u zs → t ++ 59 ∷ s ≡ u ++ zs → length u ≤ length t
-  unfolding below
-  number_longest (IsForm.word d rest zs st runs) w =
-      absurd (other_word is_decimal d (rest ++ zs) (number_first (59 ∷ s) number) st refl (w ∙ append_assoc (encode_utf8 d) rest zs))
-  number_longest (IsForm.number u zs m) w = ends t u s zs w (number_bytes m)
-  number_longest (IsForm.string quote body ys q run) w = absurd (other_first {opened = opened} is_decimal (number_first (59 ∷ s) number) (IsForm.string quote body ys q run) refl (apart_number k.Str refl) w)
-  number_longest (IsForm.whole body ys run) w = absurd (other_first {opened = opened} is_decimal (number_first (59 ∷ s) number) (IsForm.whole body ys run) refl (apart_number k.Whole refl) w)
-  number_longest (IsForm.head body ys run) w = absurd (other_first {opened = opened} is_decimal (number_first (59 ∷ s) number) (IsForm.head body ys run) refl (apart_number k.Head refl) w)
-  number_longest (IsForm.middle body ys hole run) w = absurd (other_first {opened = opened} is_decimal (number_first (59 ∷ s) number) (IsForm.middle body ys hole run) refl (apart_number k.Middle refl) w)
-  number_longest (IsForm.tail body ys hole run) w = absurd (other_first {opened = opened} is_decimal (number_first (59 ∷ s) number) (IsForm.tail body ys hole run) refl (apart_number k.Tail refl) w)
-  number_longest (IsForm.mark u ys m) w = absurd (other_first {opened = opened} is_decimal (number_first (59 ∷ s) number) (IsForm.mark u ys m) refl (apart_number k.Mark refl) w)
-
-semicolon_free : (c : ℕ) (s zs : List ℕ) → 59 ∷ s ≡ encode_utf8 c ++ zs → is_glue c ≡ false
-semicolon_free c s zs w = ap is_glue (ascii_first c 59 zs s (sym w) (lit< tt)).0 ∙ ap (λ b. b || (59 == 46)) (part_ascii 59 (lit< tt))
-
-pub number_token : (opened : List Bracket) (t s : List ℕ) → IsNumber t → IsToken opened k.Number t (59 ∷ s)
-number_token opened t s number = IsToken.formed k.Number t (59 ∷ s)
-    (record { form = IsForm.number t (59 ∷ s) number; longest = λ other u zs f w. number_longest opened t s number f w })
-    (record { free = λ n c zs w. semicolon_free c s zs w })
+pub number_token : (opened : List Bracket) (t : List ℕ) (e : ℕ) (s : List ℕ) → IsNumber t → e < 128 → in_number e ≡ false → IsToken opened k.Number t (e ∷ s)
+number_token opened t e s number low off =
+    let own : IsForm opened k.Number t (e ∷ s) = IsForm.number t (e ∷ s) number in
+    let at = number_first (e ∷ s) number in
+    IsToken.formed k.Number t (e ∷ s)
+    (record { form = own; longest = λ other u zs f w. number_longest opened t e s off f (alike_byte opened at.byte at.rest at.low at.whole own f w) w })
+    (record { free = λ n c zs w. byte_free e s low off c zs w })
 
 pub stops_before_number : (t r : List ℕ) → IsNumber t → Stops IsSpacing (t ++ r)
 unfolding below
@@ -282,66 +277,41 @@ pub record IsStringText (t : List ℕ) : Type 0 where
   pub quoted : is_quote quote ≡ true
   pub run : (ys : List ℕ) → Run (IsPiece (Quoted quote)) body (quote ∷ ys)
 
-pub quote_low : (q : ℕ) → is_quote q ≡ true → q < 128
-quote_low q h = elim (cases_Bool (q == 34)) [
-  | inl e ↦ omega (arith, eqb-true q 34 e)
-  | inr e ↦ let f : (q == 39) ≡ true = sym (ap (λ b. b || (q == 39)) e) ∙ h in omega (arith, eqb-true q 39 f)
-]
-
 stops_quote : (q : ℕ) (s : List ℕ) → is_quote q ≡ true → Stops (IsPiece (Quoted q)) (q ∷ s)
-stops_quote q s h = stops_before (Quoted q) q s (quote_low q h) (ap (λ b. not (b || (q == 92) || (q == 10) || (q == 13))) (same q)) (λ t e. let never : false ≡ true = subst (λ x. is_quote x ≡ true) e h in cc)
-  where
-    same : (b : ℕ) → (b == b) ≡ true
-    same b = grind (arith, nat_tests)
-
-quote_first : (q : ℕ) (r : List ℕ) → is_quote q ≡ true → First is_quote (q ∷ r)
-quote_first q r h = record { byte = q; rest = r; whole = refl; low = quote_low q h; passes = h }
-
-abbrev is_string : Kind → Bool
-is_string k.Str = true
-is_string _ = false
-
-apart_string : (kind : Kind) → is_string kind ≡ false → apart is_quote (first_test kind) ≡ true
-unfolding below
-apart_string k.Word h = refl
-apart_string k.Number h = refl
-apart_string k.Str h = let no : true ≡ false = h in cc
-apart_string k.Whole h = refl
-apart_string k.Head h = refl
-apart_string k.Middle h = refl
-apart_string k.Tail h = refl
-apart_string k.Mark h = refl
-apart_string k.Bad h = refl
+stops_quote q s h =
+    stops_before (Quoted q) q s (quote_low q h) (ap (λ b. not (b || (q == 92) || (q == 10) || (q == 13))) (nat_same q))
+    (λ t e. let never : false ≡ true = subst (λ x. is_quote x ≡ true) e h in cc)
 
 quoted_same : (q : ℕ) (body : List ℕ) (s : List ℕ) → (q ∷ body ++ q ∷ []) ++ s ≡ q ∷ body ++ q ∷ s
 quoted_same q body s = ap (λ x. q ∷ x) (append_assoc body (q ∷ []) s)
 
-module _ (opened : List Bracket) (q : ℕ) (body s : List ℕ) (quoted : is_quote q ≡ true) (run : Run (IsPiece (Quoted q)) body (q ∷ s)) where
-  string_longest : {other : Kind} {u zs : List ℕ} → IsForm opened other u zs → q ∷ body ++ q ∷ s ≡ u ++ zs → length u ≤ length (q ∷ body ++ q ∷ [])
-  string_longest (IsForm.word d rest zs st runs) w =
-      absurd (other_word is_quote d (rest ++ zs) (quote_first q (body ++ q ∷ s) quoted) st (apart_string k.Word refl) (w ∙ append_assoc (encode_utf8 d) rest zs))
-  string_longest (IsForm.string quote text zs h runs) w =
-      let inner : q ∷ body ++ q ∷ s ≡ quote ∷ text ++ quote ∷ zs = w ∙ quoted_same quote text zs in
-      let same : q ≡ quote = cc in
-      let rest : body ++ q ∷ s ≡ text ++ quote ∷ zs = cc in
-      let alike : Run (IsPiece (Quoted q)) text (q ∷ zs) = subst (λ x. Run (IsPiece (Quoted x)) text (x ∷ zs)) (sym same) runs in
-      let bodies : body ≡ text = run_equal (Quoted q) body (q ∷ s) text (q ∷ zs) run (stops_quote q s quoted) alike (stops_quote q zs quoted) (rest ∙ ap (λ x. text ++ x ∷ zs) (sym same)) in
-      omega (arith, length-append text (quote ∷ []), length-append body (q ∷ []), ap (λ x. length x) bodies)
-  string_longest (IsForm.number u zs m) w = absurd (other_first {opened = opened} is_quote (quote_first q (body ++ q ∷ s) quoted) (IsForm.number u zs m) refl (apart_string k.Number refl) w)
-  string_longest (IsForm.whole text zs runs) w = absurd (other_first {opened = opened} is_quote (quote_first q (body ++ q ∷ s) quoted) (IsForm.whole text zs runs) refl (apart_string k.Whole refl) w)
-  string_longest (IsForm.head text zs runs) w = absurd (other_first {opened = opened} is_quote (quote_first q (body ++ q ∷ s) quoted) (IsForm.head text zs runs) refl (apart_string k.Head refl) w)
-  string_longest (IsForm.middle text zs hole runs) w = absurd (other_first {opened = opened} is_quote (quote_first q (body ++ q ∷ s) quoted) (IsForm.middle text zs hole runs) refl (apart_string k.Middle refl) w)
-  string_longest (IsForm.tail text zs hole runs) w = absurd (other_first {opened = opened} is_quote (quote_first q (body ++ q ∷ s) quoted) (IsForm.tail text zs hole runs) refl (apart_string k.Tail refl) w)
-  string_longest (IsForm.mark u zs m) w = absurd (other_first {opened = opened} is_quote (quote_first q (body ++ q ∷ s) quoted) (IsForm.mark u zs m) refl (apart_string k.Mark refl) w)
+string_longest : (opened : List Bracket) (q : ℕ) (body s : List ℕ) → is_quote q ≡ true → Run (IsPiece (Quoted q)) body (q ∷ s) → {other : Kind} {u zs : List ℕ} → IsForm opened other u zs
+    → kind_group other ≡ 3 → q ∷ body ++ q ∷ s ≡ u ++ zs → length u ≤ length (q ∷ body ++ q ∷ [])
+string_longest opened q body s quoted run (IsForm.string quote text zs h runs) g w =
+    let inner : q ∷ body ++ q ∷ s ≡ quote ∷ text ++ quote ∷ zs = w ∙ quoted_same quote text zs in
+    let same : q ≡ quote = cc in
+    let rest : body ++ q ∷ s ≡ text ++ quote ∷ zs = cc in
+    let run_q : Run (IsPiece (Quoted q)) text (q ∷ zs) = subst (λ x. Run (IsPiece (Quoted x)) text (x ∷ zs)) (sym same) runs in
+    let bodies : body ≡ text = run_equal (Quoted q) body (q ∷ s) text (q ∷ zs) run (stops_quote q s quoted) run_q (stops_quote q zs quoted) (rest ∙ ap (λ x. text ++ x ∷ zs) (sym same)) in
+    omega (arith, length-append text (quote ∷ []), length-append body (q ∷ []), ap (λ x. length x) bodies)
+string_longest opened q body s quoted run (IsForm.word d rest zs st runs) g w = absurd (omega (arith, g))
+string_longest opened q body s quoted run (IsForm.number u zs m) g w = absurd (omega (arith, g))
+string_longest opened q body s quoted run (IsForm.whole text zs runs) g w = absurd (omega (arith, g))
+string_longest opened q body s quoted run (IsForm.head text zs runs) g w = absurd (omega (arith, g))
+string_longest opened q body s quoted run (IsForm.middle text zs hole runs) g w = absurd (omega (arith, g))
+string_longest opened q body s quoted run (IsForm.tail text zs hole runs) g w = absurd (omega (arith, g))
+string_longest opened q body s quoted run (IsForm.mark u zs m) g w = absurd (omega (arith, g))
 
 pub string_token : (opened : List Bracket) (t s : List ℕ) → IsStringText t → IsToken opened k.Str t s
 string_token opened t s text =
     let q = text.quote in
+    let own : IsForm opened k.Str (q ∷ text.body ++ q ∷ []) s = IsForm.string q text.body s text.quoted (text.run s) in
     subst (λ x. IsToken opened k.Str x s) (sym text.whole)
     (IsToken.formed k.Str (q ∷ text.body ++ q ∷ []) s
     (record {
-      form = IsForm.string q text.body s text.quoted (text.run s);
-      longest = λ other u zs f w. string_longest opened q text.body s text.quoted (text.run s) f (sym (quoted_same q text.body s) ∙ w);
+      form = own;
+      longest = λ other u zs f w. string_longest opened q text.body s text.quoted (text.run s) f
+          (alike_byte opened q ((text.body ++ q ∷ []) ++ s) (quote_low q text.quoted) refl own f w) (sym (quoted_same q text.body s) ∙ w);
     })
     (record { free = λ n c zs w. absurd cc }))
 
@@ -355,45 +325,173 @@ stops_before_string t r text =
     not_also : (p : ℕ → Bool) (b : ℕ) → apart is_quote p ≡ true → is_quote b ≡ true → p b ≡ false
     not_also p b h d = elim (cases_Bool (p b)) [ inl e ↦ absurd (clash is_quote p b h (quote_low b d) d e) | inr e ↦ e ]
 
+-- ---- templates
+
+-- the text of a part of a template: from a backtick or a `}` to a backtick or a `${`
+pub record IsPartText (first : ℕ) (last t : List ℕ) : Type 0 where
+  pub body : List ℕ
+  pub whole : t ≡ first ∷ body ++ last
+  pub run : (ys : List ℕ) → Run (IsPiece Template) body (last ++ ys)
+
+abbrev pub tick : List ℕ
+tick = 96 ∷ []
+
+abbrev pub hole : List ℕ
+hole = 36 ∷ 123 ∷ []
+
+-- two bodies of a text end at one place
+bodies_same : (body ys text zs : List ℕ) → Run (IsPiece Template) body ys → Stops (IsPiece Template) ys → Run (IsPiece Template) text zs → Stops (IsPiece Template) zs
+    → body ++ ys ≡ text ++ zs → (body ≡ text) × (ys ≡ zs)
+bodies_same body ys text zs r s q l e =
+    (run_equal Template body ys text zs r s q l e, run_same (IsPiece Template) (piece_exact Template) body ys text zs r s q l e)
+
+-- behind one byte a text ends with a backtick, or with a `${`, and not with both
+tick_tick : (a b : ℕ) (body s text zs : List ℕ) → Run (IsPiece Template) body (96 ∷ s) → Run (IsPiece Template) text (96 ∷ zs) → (a ∷ body ++ tick) ++ s ≡ (b ∷ text ++ tick) ++ zs
+    → length (b ∷ text ++ tick) ≤ length (a ∷ body ++ tick)
+tick_tick a b body s text zs run runs w =
+    let inner : a ∷ body ++ 96 ∷ s ≡ b ∷ text ++ 96 ∷ zs = ap (λ x. a ∷ x) (sym (append_assoc body tick s)) ∙ w ∙ ap (λ x. b ∷ x) (append_assoc text tick zs) in
+    let rest : body ++ 96 ∷ s ≡ text ++ 96 ∷ zs = cc in
+    let same = bodies_same body (96 ∷ s) text (96 ∷ zs) run (tick_stops s) runs (tick_stops zs) rest in
+    omega (arith, length-append text tick, length-append body tick, ap (λ x. length x) same.0)
+
+tick_hole : (a b : ℕ) (body s text zs : List ℕ) → Run (IsPiece Template) body (96 ∷ s) → Run (IsPiece Template) text (36 ∷ 123 ∷ zs) → (a ∷ body ++ tick) ++ s ≡ (b ∷ text ++ hole) ++ zs → ⊥
+tick_hole a b body s text zs run runs w =
+    let inner : a ∷ body ++ 96 ∷ s ≡ b ∷ text ++ 36 ∷ 123 ∷ zs = ap (λ x. a ∷ x) (sym (append_assoc body tick s)) ∙ w ∙ ap (λ x. b ∷ x) (append_assoc text hole zs) in
+    let rest : body ++ 96 ∷ s ≡ text ++ 36 ∷ 123 ∷ zs = cc in
+    let same = bodies_same body (96 ∷ s) text (36 ∷ 123 ∷ zs) run (tick_stops s) runs (hole_stops zs) rest in
+    let no : ◌≡◌ {A = ℕ} 96 36 = cc same.1 in omega (arith, no)
+
+hole_hole : (a b : ℕ) (body s text zs : List ℕ) → Run (IsPiece Template) body (36 ∷ 123 ∷ s) → Run (IsPiece Template) text (36 ∷ 123 ∷ zs) → (a ∷ body ++ hole) ++ s ≡ (b ∷ text ++ hole) ++ zs
+    → length (b ∷ text ++ hole) ≤ length (a ∷ body ++ hole)
+hole_hole a b body s text zs run runs w =
+    let inner : a ∷ body ++ 36 ∷ 123 ∷ s ≡ b ∷ text ++ 36 ∷ 123 ∷ zs = ap (λ x. a ∷ x) (sym (append_assoc body hole s)) ∙ w ∙ ap (λ x. b ∷ x) (append_assoc text hole zs) in
+    let rest : body ++ 36 ∷ 123 ∷ s ≡ text ++ 36 ∷ 123 ∷ zs = cc in
+    let same = bodies_same body (36 ∷ 123 ∷ s) text (36 ∷ 123 ∷ zs) run (hole_stops s) runs (hole_stops zs) rest in
+    omega (arith, length-append text hole, length-append body hole, ap (λ x. length x) same.0)
+
+-- two forms that are templates
+ticked_longest : (opened : List Bracket) (a : ℕ) (body s : List ℕ) → Run (IsPiece Template) body (96 ∷ s) → {other : Kind} {u zs : List ℕ} → IsForm opened other u zs
+    → 4 ≤ kind_group other → kind_group other ≤ 5 → (a ∷ body ++ tick) ++ s ≡ u ++ zs → length u ≤ length (a ∷ body ++ tick)
+ticked_longest opened a body s run (IsForm.whole text zs runs) low high w = tick_tick a 96 body s text zs run runs w
+ticked_longest opened a body s run (IsForm.head text zs runs) low high w = absurd (tick_hole a 96 body s text zs run runs w)
+ticked_longest opened a body s run (IsForm.middle text zs inside runs) low high w = absurd (tick_hole a 125 body s text zs run runs w)
+ticked_longest opened a body s run (IsForm.tail text zs inside runs) low high w = tick_tick a 125 body s text zs run runs w
+ticked_longest opened a body s run (IsForm.word d rest zs st runs) low high w = absurd (omega (arith, low))
+ticked_longest opened a body s run (IsForm.number u zs m) low high w = absurd (omega (arith, low))
+ticked_longest opened a body s run (IsForm.string q text zs h runs) low high w = absurd (omega (arith, low))
+ticked_longest opened a body s run (IsForm.mark u zs m) low high w = absurd (omega (arith, high))
+
+holed_longest : (opened : List Bracket) (a : ℕ) (body s : List ℕ) → Run (IsPiece Template) body (36 ∷ 123 ∷ s) → {other : Kind} {u zs : List ℕ} → IsForm opened other u zs
+    → 4 ≤ kind_group other → kind_group other ≤ 5 → (a ∷ body ++ hole) ++ s ≡ u ++ zs → length u ≤ length (a ∷ body ++ hole)
+holed_longest opened a body s run (IsForm.whole text zs runs) low high w = absurd (tick_hole 96 a text zs body s runs run (sym w))
+holed_longest opened a body s run (IsForm.head text zs runs) low high w = hole_hole a 96 body s text zs run runs w
+holed_longest opened a body s run (IsForm.middle text zs inside runs) low high w = hole_hole a 125 body s text zs run runs w
+holed_longest opened a body s run (IsForm.tail text zs inside runs) low high w = absurd (tick_hole 125 a text zs body s runs run (sym w))
+holed_longest opened a body s run (IsForm.word d rest zs st runs) low high w = absurd (omega (arith, low))
+holed_longest opened a body s run (IsForm.number u zs m) low high w = absurd (omega (arith, low))
+holed_longest opened a body s run (IsForm.string q text zs h runs) low high w = absurd (omega (arith, low))
+holed_longest opened a body s run (IsForm.mark u zs m) low high w = absurd (omega (arith, high))
+
+-- a template that ends here, and one up to a `${`
+ticked_token : (opened : List Bracket) (kind : Kind) (a : ℕ) (body s : List ℕ) → a < 128 → (kind ≡ k.Number → ⊥) → 4 ≤ kind_group kind → kind_group kind ≤ 5 → Run (IsPiece Template) body (96 ∷ s)
+    → IsForm opened kind (a ∷ body ++ tick) s → IsToken opened kind (a ∷ body ++ tick) s
+ticked_token opened kind a body s first other low high run own = IsToken.formed kind (a ∷ body ++ tick) s
+    (record {
+      form = own;
+      longest = λ o u zs f w.
+          let same = alike_byte opened a ((body ++ tick) ++ s) first refl own f w in
+          ticked_longest opened a body s run f (omega (arith, low, same)) (omega (arith, high, same)) w;
+    })
+    (record { free = λ n c zs w. absurd (other n) })
+
+holed_token : (opened : List Bracket) (kind : Kind) (a : ℕ) (body s : List ℕ) → a < 128 → (kind ≡ k.Number → ⊥) → 4 ≤ kind_group kind → kind_group kind ≤ 5
+    → Run (IsPiece Template) body (36 ∷ 123 ∷ s) → IsForm opened kind (a ∷ body ++ hole) s → IsToken opened kind (a ∷ body ++ hole) s
+holed_token opened kind a body s first other low high run own = IsToken.formed kind (a ∷ body ++ hole) s
+    (record {
+      form = own;
+      longest = λ o u zs f w.
+          let same = alike_byte opened a ((body ++ hole) ++ s) first refl own f w in
+          holed_longest opened a body s run f (omega (arith, low, same)) (omega (arith, high, same)) w;
+    })
+    (record { free = λ n c zs w. absurd (other n) })
+
+pub whole_token : (opened : List Bracket) (t s : List ℕ) → IsPartText 96 tick t → IsToken opened k.Whole t s
+whole_token opened t s text =
+    subst (λ x. IsToken opened k.Whole x s) (sym text.whole)
+    (ticked_token opened k.Whole 96 text.body s (lit< tt) (λ n. cc) (lit≤ tt) (lit≤ tt) (text.run s) (IsForm.whole text.body s (text.run s)))
+
+pub head_token : (opened : List Bracket) (t s : List ℕ) → IsPartText 96 hole t → IsToken opened k.Head t s
+head_token opened t s text =
+    subst (λ x. IsToken opened k.Head x s) (sym text.whole)
+    (holed_token opened k.Head 96 text.body s (lit< tt) (λ n. cc) (lit≤ tt) (lit≤ tt) (text.run s) (IsForm.head text.body s (text.run s)))
+
+pub middle_token : (opened : List Bracket) (t s : List ℕ) → in_hole opened ≡ true → IsPartText 125 hole t → IsToken opened k.Middle t s
+middle_token opened t s inside text =
+    subst (λ x. IsToken opened k.Middle x s) (sym text.whole)
+    (holed_token opened k.Middle 125 text.body s (lit< tt) (λ n. cc) (lit≤ tt) (lit≤ tt) (text.run s) (IsForm.middle text.body s inside (text.run s)))
+
+pub tail_token : (opened : List Bracket) (t s : List ℕ) → in_hole opened ≡ true → IsPartText 125 tick t → IsToken opened k.Tail t s
+tail_token opened t s inside text =
+    subst (λ x. IsToken opened k.Tail x s) (sym text.whole)
+    (ticked_token opened k.Tail 125 text.body s (lit< tt) (λ n. cc) (lit≤ tt) (lit≤ tt) (text.run s) (IsForm.tail text.body s inside (text.run s)))
+
+pub stops_before_part : (a : ℕ) (last t r : List ℕ) → a < 128 → is_blank a ≡ false → (a == 47) ≡ false → IsPartText a last t → Stops IsSpacing (t ++ r)
+stops_before_part a last t r low solid slash text = subst (λ x. Stops IsSpacing (x ++ r)) (sym text.whole) (stops_byte a ((text.body ++ last) ++ r) low solid slash)
+
 -- ---- marks
 
--- a text of two bytes and more that begins with these two
-abbrev pub goes_on : ℕ → ℕ → List ℕ → Bool
-goes_on b e (x ∷ y ∷ m) = (x == b) && (y == e)
-goes_on b e _ = false
+-- the text m begins with the text t and this byte behind it
+abbrev pub goes_on : List ℕ → ℕ → List ℕ → Bool
+goes_on [] e [] = false
+goes_on [] e (y ∷ m) = e == y
+goes_on (b ∷ t) e [] = false
+goes_on (b ∷ t) e (x ∷ m) = (x == b) && goes_on t e m
 
-module _ (opened : List Bracket) (b e : ℕ) (s : List ℕ) (low : b < 128) (start : is_start b ≡ false) (digit : is_decimal b ≡ false) (quote : is_quote b ≡ false)
-    (backtick : (b == 96) ≡ false) (hole : in_hole opened ≡ false) (alone : list_all (λ m. not (goes_on b e m)) marks ≡ true) where
-  no_first : (test : ℕ → Bool) (xs : List ℕ) → First test xs → b ∷ e ∷ s ≡ xs → test b ≡ false → ⊥
-  no_first test xs at w h = let a = at.whole in let same : at.byte ≡ b = cc in not_both (test at.byte) at.passes (ap test same ∙ h)
+-- no mark begins with the text t and the first byte of what follows
+abbrev pub ends_before : List ℕ → List ℕ → Bool
+ends_before t [] = true
+ends_before t (e ∷ s) = list_all (λ m. not (goes_on t e m)) marks
 
-  mark_alone : (u zs : List ℕ) → is_mark u ≡ true → b ∷ e ∷ s ≡ u ++ zs → length u ≤ 1
-  mark_alone [] zs h w = omega arith
-  mark_alone (x ∷ []) zs h w = omega arith
-  mark_alone (x ∷ y ∷ u) zs h w =
-      let first : x ≡ b = cc in
-      let second : y ≡ e = cc in
-      let out : not ((x == b) && (y == e)) ≡ true = all_from marks (λ m. not (goes_on b e m)) (x ∷ y ∷ u) h alone in
-      let never : not ((b == b) && (e == e)) ≡ true = subst (λ v. not ((v == b) && (e == e)) ≡ true) first (subst (λ v. not ((x == b) && (v == e)) ≡ true) second out) in
-      absurd (same_twice b e never)
-    where
-      same_twice : (b e : ℕ) → not ((b == b) && (e == e)) ≡ true → ⊥
-      same_twice b e h = grind (arith, nat_tests)
+goes_on_by : (t : List ℕ) (e : ℕ) (s u zs : List ℕ) → t ++ e ∷ s ≡ u ++ zs → length t < length u → goes_on t e u ≡ true
+goes_on_by [] e s [] zs w l = absurd (omega (arith, l))
+goes_on_by [] e s (y ∷ u) zs w l = let same : e ≡ y = cc in ap (λ x. x == y) same ∙ nat_same y
+goes_on_by (b ∷ t) e s [] zs w l = absurd (omega (arith, l))
+goes_on_by (b ∷ t) e s (x ∷ u) zs w l =
+    let same : b ≡ x = cc in
+    let rest : t ++ e ∷ s ≡ u ++ zs = cc in
+    and_both (x == b) (goes_on t e u) (ap (λ v. x == v) same ∙ nat_same x) (goes_on_by t e s u zs rest (omega (arith, l)))
 
-  mark_longest : {other : Kind} {u zs : List ℕ} → IsForm opened other u zs → b ∷ e ∷ s ≡ u ++ zs → length u ≤ 1
-  mark_longest (IsForm.word d rest zs st runs) w =
-      let same : d ≡ b = (ascii_first d b (rest ++ zs) (e ∷ s) (sym (append_assoc (encode_utf8 d) rest zs) ∙ sym w) low).0 in
-      absurd (not_both (is_word_start d) st (ap is_word_start same ∙ start_ascii b low ∙ start))
-  mark_longest (IsForm.number u zs m) w = absurd (no_first is_decimal (u ++ zs) (number_first zs m) w digit)
-  mark_longest (IsForm.string q text zs h runs) w = absurd (no_first is_quote _ (quote_first q (text ++ q ∷ [] ++ zs) h) w quote)
-  mark_longest (IsForm.whole text zs runs) w = let same : b ≡ 96 = cc in absurd (not_both (b == 96) (ap (λ x. x == 96) same) backtick)
-  mark_longest (IsForm.head text zs runs) w = let same : b ≡ 96 = cc in absurd (not_both (b == 96) (ap (λ x. x == 96) same) backtick)
-  mark_longest (IsForm.middle text zs inside runs) w = absurd (not_both (in_hole opened) inside hole)
-  mark_longest (IsForm.tail text zs inside runs) w = absurd (not_both (in_hole opened) inside hole)
-  mark_longest (IsForm.mark u zs m) w =
-      mark_alone u zs (and_left (is_mark u) (not (bytes_eq u (125 ∷ []) && in_hole opened) && not (bytes_eq u (47 ∷ []) && begins 42 zs)) m) w
+mark_fits : (t ys u zs : List ℕ) → ends_before t ys ≡ true → is_mark u ≡ true → t ++ ys ≡ u ++ zs → length u ≤ length t
+mark_fits t [] u zs h m w = omega (arith, ap (λ x. length x) w, length-append t [], length-append u zs)
+mark_fits t (e ∷ s) u zs h m w = elim (cases_lt (length t) (length u)) [
+  | inl less ↦ absurd (not_both (goes_on t e u) (goes_on_by t e s u zs w less) (not_true (goes_on t e u) (of_marks (λ v. not (goes_on t e v)) marks u h m)))
+  | inr more ↦ more
+]
 
-  pub mark_token : is_plain_mark opened (b ∷ []) (e ∷ s) ≡ true → IsToken opened k.Mark (b ∷ []) (e ∷ s)
-  mark_token plain = IsToken.formed k.Mark (b ∷ []) (e ∷ s)
-      (record { form = IsForm.mark (b ∷ []) (e ∷ s) plain; longest = λ other u zs f w. mark_longest f w })
-      (record { free = λ n c zs w. absurd cc })
+plain_is_mark : (opened : List Bracket) (t ys : List ℕ) → is_plain_mark opened t ys ≡ true → is_mark t ≡ true
+plain_is_mark opened t ys h = and_left (is_mark t) (not (bytes_eq t (125 ∷ []) && in_hole opened) && not (bytes_eq t (47 ∷ []) && begins 42 ys)) h
+
+mark_longest : (opened : List Bracket) (t ys : List ℕ) → ends_before t ys ≡ true → {other : Kind} {u zs : List ℕ} → IsForm opened other u zs → kind_group other ≡ 6 → t ++ ys ≡ u ++ zs
+    → length u ≤ length t
+mark_longest opened t ys h (IsForm.mark u zs m) g w = mark_fits t ys u zs h (plain_is_mark opened u zs m) w
+mark_longest opened t ys h (IsForm.word d rest zs st runs) g w = absurd (omega (arith, g))
+mark_longest opened t ys h (IsForm.number u zs m) g w = absurd (omega (arith, g))
+mark_longest opened t ys h (IsForm.string q text zs k runs) g w = absurd (omega (arith, g))
+mark_longest opened t ys h (IsForm.whole text zs runs) g w = absurd (omega (arith, g))
+mark_longest opened t ys h (IsForm.head text zs runs) g w = absurd (omega (arith, g))
+mark_longest opened t ys h (IsForm.middle text zs inside runs) g w = absurd (omega (arith, g))
+mark_longest opened t ys h (IsForm.tail text zs inside runs) g w = absurd (omega (arith, g))
+
+mark_formed : (opened : List Bracket) (b : ℕ) (r ys : List ℕ) → b < 128 → is_plain_mark opened (b ∷ r) ys ≡ true → ends_before (b ∷ r) ys ≡ true → IsToken opened k.Mark (b ∷ r) ys
+mark_formed opened b r ys low plain h =
+    let own : IsForm opened k.Mark (b ∷ r) ys = IsForm.mark (b ∷ r) ys plain in
+    IsToken.formed k.Mark (b ∷ r) ys
+    (record { form = own; longest = λ other u zs f w. mark_longest opened (b ∷ r) ys h f (alike_byte opened b (r ++ ys) low refl own f w) w })
+    (record { free = λ n c zs w. absurd cc })
+
+pub mark_token : (opened : List Bracket) (t ys : List ℕ) → is_plain_mark opened t ys ≡ true → ends_before t ys ≡ true → IsToken opened k.Mark t ys
+mark_token opened [] ys plain h = let no : false ≡ true = plain_is_mark opened [] ys plain in absurd cc
+mark_token opened (b ∷ r) ys plain h =
+    let shape = mark_shapes (b ∷ r) (plain_is_mark opened (b ∷ r) ys plain) in
+    let low = low_by b (and_left (nat_lt b 128) (list_all (λ c. nat_lt c 128) r) (and_right (nat_lt 0 (length (b ∷ r))) (list_all (λ c. nat_lt c 128) (b ∷ r)) shape)) in
+    mark_formed opened b r ys low plain h

@@ -1,5 +1,5 @@
 -- Texts of whole characters: what follows one in UTF-8 is UTF-8.
-use Rattle.std.proofs.Common.{◌≡◌, ℕ, ◌<◌, ◌≤◌, ◌==◌, Bool, true, List, [], ◌∷◌, ◌++◌, length, subst, refl, arith, inl, inr, lit<, append_assoc}
+use Rattle.std.proofs.Common.{◌≡◌, ℕ, ◌<◌, ◌≤◌, Bool, true, List, [], ◌∷◌, ◌++◌, length, subst, refl, arith, inl, inr, lit<, append_assoc}
 use Rattle.std.specs.Prelude.{◌&&◌, not, nat_lt, codes, encode_utf8, IsUtf8}
 use Rattle.std.specs.Str.{bytes_eq}
 use Rattle.std.specs.List.{list_all}
@@ -15,8 +15,10 @@ use Rattle.tb_scan.specs.Pieces.{Run, IsPiece, IsEscape, IsSpacing, is_simple_es
 use Rattle.tb_scan.specs.Marks.{marks, is_mark}
 use Rattle.tb_scan.specs.Tokens.{IsForm, IsToken, in_hole}
 use Rattle.tb_scan.proofs.TestLemmas.{and_left, and_right, and_both}
-use Rattle.tb_emit_law.proofs.Firsts.{all_from}
-use Rattle.tb_emit_law.proofs.Alone.{is_plain_byte, digits_bytes, number_bytes, quote_low}
+use Rattle.tb_scan.proofs.Forms.{of_marks}
+use Rattle.tb_scan.proofs.Reading.{quote_low}
+use Rattle.tb_emit_law.proofs.Firsts.{low_by}
+use Rattle.tb_emit_law.proofs.Alone.{in_number, is_plain_byte, digits_bytes, number_bytes}
 
 pub record IsCoded (t : List ℕ) : Type 0 where
   pub past : (ys : List ℕ) → IsUtf8 (t ++ ys) → IsUtf8 ys
@@ -39,20 +41,17 @@ coded_byte b h = subst IsCoded (encode_ascii b h) (coded_char b)
 coded_more : (b : ℕ) {t : List ℕ} → b < 128 → IsCoded t → IsCoded (b ∷ t)
 coded_more b h f = coded_both (coded_byte b h) f
 
-low : (c : ℕ) → nat_lt c 128 ≡ true → c < 128
-low c h = grind (arith, nat_tests)
-
 abbrev is_low : ℕ → Bool
 is_low c = nat_lt c 128
 
 coded_low : (t : List ℕ) → list_all is_low t ≡ true → IsCoded t
 coded_low [] h = coded_none
-coded_low (b ∷ t) h = coded_more b (low b (and_left (is_low b) (list_all is_low t) h)) (coded_low t (and_right (is_low b) (list_all is_low t) h))
+coded_low (b ∷ t) h = coded_more b (low_by b (and_left (is_low b) (list_all is_low t) h)) (coded_low t (and_right (is_low b) (list_all is_low t) h))
 
 plain_low : (t : List ℕ) → list_all is_plain_byte t ≡ true → list_all is_low t ≡ true
 plain_low [] h = refl
 plain_low (b ∷ t) h =
-    and_both (is_low b) (list_all is_low t) (and_left (is_low b) (not (b == 59)) (and_left (is_plain_byte b) (list_all is_plain_byte t) h))
+    and_both (is_low b) (list_all is_low t) (and_left (is_low b) (in_number b) (and_left (is_plain_byte b) (list_all is_plain_byte t) h))
     (plain_low t (and_right (is_plain_byte b) (list_all is_plain_byte t) h))
 
 coded_plain : (t : List ℕ) → list_all is_plain_byte t ≡ true → IsCoded t
@@ -95,7 +94,7 @@ coded_form (IsForm.head body ys r) = coded_both (coded_more 96 (lit< tt) (coded_
 coded_form (IsForm.middle body ys h r) = coded_both (coded_more 125 (lit< tt) (coded_pieces r)) (coded_low (36 ∷ 123 ∷ []) refl)
 coded_form (IsForm.tail body ys h r) = coded_both (coded_more 125 (lit< tt) (coded_pieces r)) (coded_low (96 ∷ []) refl)
 coded_form {opened = opened} (IsForm.mark t ys m) =
-    coded_low t (all_from marks (list_all is_low) t (and_left (is_mark t) (not (bytes_eq t (codes "}") && in_hole opened) && not (bytes_eq t (codes "/") && begins 42 ys)) m) refl)
+    coded_low t (of_marks (list_all is_low) marks t refl (and_left (is_mark t) (not (bytes_eq t (codes "}") && in_hole opened) && not (bytes_eq t (codes "/") && begins 42 ys)) m))
 
 -- what follows a token
 pub token_rest : {opened : List Bracket} {kind : Kind} {t ys : List ℕ} → IsToken opened kind t ys → IsUtf8 (t ++ ys) → IsUtf8 ys

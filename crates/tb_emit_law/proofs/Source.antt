@@ -1,6 +1,6 @@
 -- What the symbols of a source are: words, numbers and strings are spelled as such, in UTF-8.
-use Rattle.std.proofs.Common.{◌≡◌, ℕ, ◌+◌, ◌≤◌, Bool, true, false, List, [], ◌∷◌, ◌++◌, length, take, drop, sym, ap, subst, ◌∙◌, refl, inl, inr, arith, append_assoc}
-use Rattle.std.specs.Prelude.{◌&&◌, if◌then◌else◌, nat_le, nat_eq, encode_utf8, slice_range, IsUtf8, Option, Some, None}
+use Rattle.std.proofs.Common.{◌≡◌, ℕ, ◌+◌, ◌≤◌, ◌==◌, Bool, true, false, List, [], ◌∷◌, ◌++◌, length, take, drop, sym, ap, subst, ◌∙◌, refl, inl, inr, arith, append_assoc}
+use Rattle.std.specs.Prelude.{◌&&◌, ◌||◌, not, if◌then◌else◌, nat_le, nat_eq, encode_utf8, slice_range, IsUtf8, Option, Some, None}
 use Rattle.std.specs.List.{AllByRecursion, starts_with}
 use Rattle.std.proofs.lemmas.Bool.{cases_Bool}
 use Rattle.std.proofs.lemmas.Bool.Decides.{nat_tests}
@@ -8,29 +8,34 @@ use Rattle.std.proofs.lemmas.Slice.Eq.{bytes_eq-Decides}
 use Rattle.std.proofs.lemmas.List.{take-append-drop}
 use Rattle.std.proofs.lemmas.Str.{IsUtf8-past_char, is_utf8-from_IsUtf8}
 use Rattle.tb_text.specs.Messages.{without_mark}
-use Rattle.tb_scan.specs.declared.inside.Inside.TheVariants.{Word, Quoted}
+use Rattle.tb_scan.specs.declared.inside.Inside.TheVariants.{Word, Quoted, Template}
 use Rattle.tb_scan.specs.declared.braces.Bracket.{Bracket}
 use Rattle.tb_scan.specs.declared.token.Kind.{Kind}
 use Rattle.tb_scan.specs.declared.token.Token.{Token}
 use Rattle.tb_scan.specs.Characters.{is_blank, is_digit, begins_where}
-use Rattle.tb_scan.specs.Pieces.{Run, Stops, IsPiece, IsEscape, IsSpacing}
+use Rattle.tb_scan.specs.Pieces.{Run, Stops, IsPiece, IsEscape, IsSpacing, may_stand}
 use Rattle.tb_scan.specs.Numbers.{IsNumber}
 use Rattle.tb_scan.specs.Tokens.{IsForm, IsToken, Scans}
 use Rattle.tb_tree.specs.declared.marks.Mark as marks
 use Rattle.tb_tree.specs.declared.words.Class.TheVariants as c
+use Rattle.tb_tree.specs.declared.words.Template.TheVariants as part
 use Rattle.tb_tree.specs.Sym.{Sym, Lex}
 use Rattle.tb_tree.specs.Words.{word_of, mark_of}
-use Rattle.tb_parse_file.specs.Symbols.{symbols, spelled, as_text, placed, symbol_of, mark_or_bad}
+use Rattle.tb_parse_type.specs.Symbols.{symbols, spelled, as_text, placed, symbol_of, mark_or_bad}
 use Rattle.tb_parse_file.specs.Files.{HasSymbols}
-use Rattle.tb_emit_law.proofs.Alone.{IsWordText, IsStringText}
+use Rattle.tb_emit_law.proofs.Alone.{IsWordText, IsStringText, IsPartText, tick, hole}
 use Rattle.tb_emit_law.proofs.Coded.{coded_text, coded_spacing, token_rest}
 use Rattle.tb_emit_law.proofs.Told.{behind_token, slice_is, within}
 
--- a word, a number or a string, spelled as such
+-- a word, a number, a string or a part of a template, spelled as such
 abbrev pub IsFormed : Sym → Type 0
 IsFormed (Lex (c.Word kind) t at) = (kind ≡ word_of t) × IsWordText t × IsUtf8 t
 IsFormed (Lex c.Number t at) = IsNumber t × IsUtf8 t
 IsFormed (Lex c.String t at) = IsStringText t × IsUtf8 t
+IsFormed (Lex (c.Template part.Whole) t at) = IsPartText 96 tick t × IsUtf8 t
+IsFormed (Lex (c.Template part.Head) t at) = IsPartText 96 hole t × IsUtf8 t
+IsFormed (Lex (c.Template part.Middle) t at) = IsPartText 125 hole t × IsUtf8 t
+IsFormed (Lex (c.Template part.Tail) t at) = IsPartText 125 tick t × IsUtf8 t
 IsFormed _ = Unit {0}
 
 -- ---- forms before any text
@@ -57,6 +62,23 @@ run_quoted q ys zs g (Run.more _ t w (IsPiece.character d _ h) r) = Run.more (en
 run_quoted q ys zs g (Run.more _ t w (IsPiece.escape e _ h s) r) =
     Run.more e t (q ∷ zs) (IsPiece.escape e (t ++ q ∷ zs) h (escape_on q (t ++ w) t w ys zs refl g s)) (run_quoted q ys zs g r)
 
+-- what stands before the end of a template stands there before any text behind it
+same_stand : (q d : ℕ) (t w ys zs : List ℕ) → w ≡ q ∷ ys → may_stand Template d (t ++ w) ≡ true → may_stand Template d (t ++ q ∷ zs) ≡ true
+same_stand q d t w ys zs e h = sym (ap (λ b. not ((d == 96) || (d == 92) || ((d == 36) && b))) (same_begin (λ x. x == 123) q t w ys zs e)) ∙ h
+
+run_part : (q : ℕ) (ys zs : List ℕ) {t w : List ℕ} → w ≡ q ∷ ys → Run (IsPiece Template) t w → Run (IsPiece Template) t (q ∷ zs)
+run_part q ys zs g (Run.none _) = Run.none (q ∷ zs)
+run_part q ys zs g (Run.more _ t w (IsPiece.character d _ h) r) =
+    Run.more (encode_utf8 d) t (q ∷ zs) (IsPiece.character d (t ++ q ∷ zs) (same_stand q d t w ys zs g h)) (run_part q ys zs g r)
+run_part q ys zs g (Run.more _ t w (IsPiece.escape e _ h s) r) =
+    Run.more e t (q ∷ zs) (IsPiece.escape e (t ++ q ∷ zs) h (escape_on q (t ++ w) t w ys zs refl g s)) (run_part q ys zs g r)
+
+ticked : (first : ℕ) (body ys : List ℕ) → Run (IsPiece Template) body (96 ∷ ys) → IsPartText first tick (first ∷ body ++ 96 ∷ [])
+ticked first body ys run = record { body = body; whole = refl; run = λ zs. run_part 96 ys zs refl run }
+
+holed : (first : ℕ) (body ys : List ℕ) → Run (IsPiece Template) body (36 ∷ 123 ∷ ys) → IsPartText first hole (first ∷ body ++ 36 ∷ 123 ∷ [])
+holed first body ys run = record { body = body; whole = refl; run = λ zs. run_part 36 (123 ∷ ys) (123 ∷ zs) refl run }
+
 solid : (d : ℕ) (r : List ℕ) → Stops IsSpacing (encode_utf8 d ++ r) → is_blank d ≡ false
 solid d r s = elim (cases_Bool (is_blank d)) [ inl e ↦ absurd (s.never (encode_utf8 d) r refl (IsSpacing.blank d r e)) | inr e ↦ e ]
 
@@ -81,10 +103,10 @@ form_formed at (IsForm.word d rest ys start run) stops u = (
 )
 form_formed at (IsForm.number t ys n) stops u = (n, u)
 form_formed at (IsForm.string q body ys h run) stops u = (record { quote = q; body = body; whole = refl; quoted = h; run = λ zs. run_quoted q ys zs refl run }, u)
-form_formed at (IsForm.whole body ys run) stops u = tt
-form_formed at (IsForm.head body ys run) stops u = tt
-form_formed at (IsForm.middle body ys h run) stops u = tt
-form_formed at (IsForm.tail body ys h run) stops u = tt
+form_formed at (IsForm.whole body ys run) stops u = (ticked 96 body ys run, u)
+form_formed at (IsForm.head body ys run) stops u = (holed 96 body ys run, u)
+form_formed at (IsForm.middle body ys h run) stops u = (holed 125 body ys run, u)
+form_formed at (IsForm.tail body ys h run) stops u = (ticked 125 body ys run, u)
 form_formed at (IsForm.mark t ys m) stops u = mark_formed (mark_of t) t at
 
 token_formed : {opened : List Bracket} {kind : Kind} {t ys : List ℕ} (at : ℕ) → IsToken opened kind t ys → Stops IsSpacing (t ++ ys) → IsUtf8 t → IsFormed (placed (symbol_of kind t) t at)

@@ -1,26 +1,40 @@
--- JavaScript reads back: where a source reads as a file, the JavaScript of that file reads as the erased file, but for offsets.
--- This project's own.
-use Rattle.std.specs.Prelude.{◌≡◌, ⊤, ℕ, List, Result, Ok, Err}
-use Rattle.tb_plain.specs.declared.trees.File.{File}
-use Rattle.tb_plain.specs.Bare.{bare_file}
-use Rattle.tb_plain.specs.Erase.{erase}
-use Rattle.tb_plain.specs.Layout.{js_text}
+-- The two laws of JavaScript: its tokens derive the erased file, item by item; and reading it gives the erased file, where no list of
+-- parameters has a `?` after a `=`. This project's own.
+use Rattle.std.specs.Prelude.{◌≡◌, ⊤, ℕ, true, List, [], ◌∷◌, ◌++◌, map, Result, Ok, Err}
+use Rattle.tb_tree.specs.declared.items.File.{File}
+use Rattle.tb_tree.specs.declared.items.Item.{Item}
+use Rattle.tb_tree.specs.Sym.{Sym}
+use Rattle.tb_tree.specs.Bare.{bare_item, bare_file}
+use Rattle.tb_tree.specs.Items.{DerivesJs}
+use Rattle.tb_layout.specs.Erase.{erase}
+use Rattle.tb_layout.specs.Js.{js_text}
+use Rattle.tb_layout.specs.Steady.{is_steady_file}
 use Rattle.tb_parse_file.specs.declared.FileFault.{FileFault}
 use Rattle.tb_parse_file.specs.declared.FileFault.TheVariants as fault
-use Rattle.tb_parse_file.specs.Files.{ReadsFile, Answers}
+use Rattle.tb_parse_file.specs.Files.{HasSymbols, ReadsFile, Answers}
 
--- what reading it answers: this file but for offsets, or that memory was refused
+-- the symbols are these items, one after the other
+pub data AreItems (D : List Sym → Item → Type 0) : List Sym → List Item → Type 0 where
+  are_none : AreItems D [] []
+  are_more : {xs ys : List Sym} {of : Item} {rest : List Item} → D xs of → AreItems D ys rest → AreItems D (xs ++ ys) (of ∷ rest)
+
+-- the tokens of a text are the items of this file, but for offsets
+pub record DerivesBack (text : List ℕ) (of : File) : Type 0 where
+  pub seen : List Sym
+  pub symbols : HasSymbols text seen
+  pub items : List Item
+  pub are : AreItems DerivesJs seen items
+  pub same : map bare_item items ≡ map bare_item of.items
+
+abbrev pub JsDerives : Type 0
+JsDerives = (source : List ℕ) (file : File) → ReadsFile source file → DerivesBack (js_text (erase file)) (erase file)
+
+-- what reading answers: this file but for offsets, or that memory was refused
 abbrev pub AnswersAs : File → Result File FileFault → Type 0
 AnswersAs of (Ok back) = bare_file back ≡ bare_file of
 AnswersAs of (Err (fault.Syntax finding)) = ⊥
 AnswersAs of (Err fault.NoMemory) = ⊤
 
--- it has a reading, and every answer that reading it may give is that tree
-pub record ReadsBack (text : List ℕ) (of : File) : Type 0 where
-  pub back : File
-  pub reads : ReadsFile text back
-  pub same : bare_file back ≡ bare_file of
-  pub only : (result : Result File FileFault) → Answers text result → AnswersAs of result
-
-abbrev pub JsTextReadsBack : Type 0
-JsTextReadsBack = (source : List ℕ) (file : File) → ReadsFile source file → ReadsBack (js_text (erase file)) (erase file)
+abbrev pub JsReadsBack : Type 0
+JsReadsBack = (source : List ℕ) (file : File) → ReadsFile source file → is_steady_file file ≡ true
+    → (result : Result File FileFault) → Answers (js_text (erase file)) result → AnswersAs (erase file) result

@@ -1,10 +1,28 @@
-mod Declarations
-mod Items
-mod Marks
-mod Members
+pub mod Aliases
+pub mod Bases
+pub mod Behind
+pub mod Chosen
+pub mod Declared
+pub mod FirstWords
+pub mod Headed
+pub mod ImportReadings
+pub mod Interfaces
+pub mod ItemLoops
+pub mod ItemRows
+pub mod ItemStarts
+pub mod ListReadings
+pub mod Marks
+pub mod MemberHeads
+pub mod MemberParts
+pub mod MemberRows
+pub mod NameFronts
+pub mod NamedLists
+pub mod NoSemicolon
 pub mod OneFile
-mod Parts
-mod Readings
-mod Sources
-mod Spelled
-mod Tokens
+pub mod PartReadings
+pub mod Parting
+pub mod Sources
+pub mod SpecReadings
+pub mod StmtParts
+pub mod Unique
+pub mod WholeClasses

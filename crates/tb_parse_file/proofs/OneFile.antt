@@ -2,19 +2,20 @@
 use Rattle.std.proofs.Common.{◌≡◌, ℕ, List, [], refl, sym, ap, subst, ◌∙◌}
 use Rattle.tb_text.specs.declared.findings.Finding.{Finding}
 use Rattle.tb_text.specs.Messages.{without_mark}
-use Rattle.tb_plain.specs.declared.trees.File.{File}
-use Rattle.tb_plain.specs.declared.trees.Item.{Item}
+use Rattle.tb_tree.specs.declared.items.File.{File}
+use Rattle.tb_tree.specs.declared.items.Item.{Item}
 use Rattle.tb_tree.specs.Sym.{Sym}
-use Rattle.tb_plain.specs.Reading.{ReadsItems, StopsAt}
-use Rattle.tb_plain.proofs.Unique.{one_reading, reads_or_stops, one_stop}
+use Rattle.tb_parse_file.specs.Files.{ReadsItems, StopsAt}
+use Rattle.tb_parse_file.proofs.Unique.{one_reading, reads_or_stops, one_stop}
 use Rattle.std.specs.Prelude.{Result, Ok, Err}
 use Rattle.tb_parse_file.specs.declared.FileFault.{FileFault}
 use Rattle.tb_parse_file.specs.declared.FileFault.TheVariants as fault
-use Rattle.tb_parse_file.specs.Symbols.{symbols}
+use Rattle.tb_parse_type.specs.Symbols.{symbols}
 use Rattle.tb_parse_file.specs.Files.{HasSymbols, ReadsFile, HasFault, no_text, no_item, finding, Answers, IsFile, IsFault}
 use Rattle.tb_scan.proofs.Unique.{scan_is_one}
 
-same_symbols : {text : List ℕ} {a b : List Sym} → HasSymbols text a → HasSymbols text b → a ≡ b
+-- a text has one list of symbols
+pub same_symbols : {text : List ℕ} {a b : List Sym} → HasSymbols text a → HasSymbols text b → a ≡ b
 same_symbols {text = text} h g = h.same ∙ ap (λ ts. symbols (without_mark text) ts) (scan_is_one (without_mark text) 0 [] h.tokens g.tokens h.scanned g.scanned) ∙ sym g.same
 
 abbrev file_of : List Item → File

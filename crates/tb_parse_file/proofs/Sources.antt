@@ -4,9 +4,9 @@ use Rattle.std.specs.Str.{IsUtf8}
 use Rattle.tb_text.specs.Messages.{without_mark}
 use Rattle.tb_scan.specs.declared.token.Token.{Token}
 use Rattle.tb_scan.specs.Tokens.{Scans}
-use Rattle.tb_plain.specs.Reading.{StopsAt}
+use Rattle.tb_parse_file.specs.Files.{StopsAt}
 use Rattle.tb_tree.proofs.Ends.{ap_both}
-use Rattle.tb_parse_file.specs.Symbols.{symbols}
+use Rattle.tb_parse_type.specs.Symbols.{symbols}
 use Rattle.tb_parse_file.specs.Files.{HasSymbols, HasFault, no_item, finding}
 
 has_symbols : (text plain : List ℕ) (tokens : List Token) → IsUtf8 text → plain ≡ without_mark text → Scans plain 0 [] tokens → HasSymbols text (symbols (without_mark text) tokens)

@@ -5,13 +5,14 @@ use Rattle.tb_text.specs.declared.findings.Finding.{Finding}
 use Rattle.tb_text.specs.Messages.{without_mark}
 use Rattle.tb_scan.specs.declared.token.Token.{Token}
 use Rattle.tb_scan.specs.Tokens.{Scans}
-use Rattle.tb_plain.specs.declared.trees.File.{File}
+use Rattle.tb_tree.specs.declared.items.File.{File}
+use Rattle.tb_tree.specs.declared.items.Item.{Item}
 use Rattle.tb_tree.specs.Sym.{Sym}
-use Rattle.tb_plain.specs.Plain.{is_plain}
-use Rattle.tb_plain.specs.Reading.{ReadsItems, StopsAt}
+use Rattle.tb_tree.specs.Items.{DerivesItem}
+use Rattle.tb_tree.specs.Reading as reading
+use Rattle.tb_parse_type.specs.Symbols.{symbols}
 use Rattle.tb_parse_file.specs.declared.FileFault.{FileFault}
 use Rattle.tb_parse_file.specs.declared.FileFault.TheVariants as fault
-use Rattle.tb_parse_file.specs.Symbols.{symbols}
 
 -- the symbols of a source in UTF-8: its tokens without a leading byte order mark, from which offsets are counted
 pub record HasSymbols (text : List ℕ) (seen : List Sym) : Type 0 where
@@ -19,6 +20,14 @@ pub record HasSymbols (text : List ℕ) (seen : List Sym) : Type 0 where
   pub tokens : List Token
   pub scanned : Scans (without_mark text) 0 [] tokens
   pub same : seen ≡ symbols (without_mark text) tokens
+
+-- the symbols are items, each the longest front of the rest that derives one
+abbrev pub ReadsItems : List Sym → List Item → Type 0
+ReadsItems = reading.ReadsAs DerivesItem
+
+-- after such items no front of the rest derives one, and the rest begins at this offset
+abbrev pub StopsAt : List Sym → ℕ → Type 0
+StopsAt = reading.StopsAt DerivesItem
 
 -- the source reads as this file: its symbols are the file's items
 pub record ReadsFile (text : List ℕ) (file : File) : Type 0 where
@@ -51,8 +60,3 @@ abbrev pub IsFault : Finding → Result File FileFault → Type 0
 IsFault finding (Ok found) = ⊥
 IsFault finding (Err (fault.Syntax found)) = found ≡ finding
 IsFault finding (Err fault.NoMemory) = ⊤
-
--- the source is this plain file
-pub record ReadsPlain (text : List ℕ) (file : File) : Type 0 where
-  pub reads : ReadsFile text file
-  pub plain : is_plain file ≡ true

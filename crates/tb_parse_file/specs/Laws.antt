@@ -1,7 +1,7 @@
 -- How a source reads is determined: laws of the definitions. This project's own.
 use Rattle.std.specs.Prelude.{◌≡◌, ℕ, List}
 use Rattle.tb_text.specs.declared.findings.Finding.{Finding}
-use Rattle.tb_plain.specs.declared.trees.File.{File}
+use Rattle.tb_tree.specs.declared.items.File.{File}
 use Rattle.tb_parse_file.specs.Files.{ReadsFile, HasFault}
 
 -- a source reads as one file

@@ -1,5 +1,8 @@
+pub mod Choice
+pub mod Classes
+pub mod Declarations
 pub mod Files
 pub mod Laws
+pub mod Lists
 pub mod Reading
 pub mod Rules
-pub mod Symbols

@@ -1,55 +1,68 @@
--- The rules of the grammar without their depths, and the symbols with which a reading of a rule may go on behind a shorter one.
-use Rattle.std.specs.Prelude.{ℕ, ◌≤◌, ◌≡◌, Bool, true, false, List, [], ◌∷◌, ◌++◌, Option}
+-- The rules of items up to a depth, and the symbols with which a reading of a rule may go on behind a shorter one. What is read here is
+-- source: the order of parameters counts.
+use Rattle.std.specs.Prelude.{ℕ, ◌≤◌, ◌≡◌, Bool, true, false, ◌&&◌, List}
 use Rattle.tb_tree.specs.declared.marks.Mark.TheVariants as m
-use Rattle.tb_plain.specs.declared.trees.VarKind.{VarKind}
-use Rattle.tb_plain.specs.declared.trees.TypeExpr.{TypeExpr}
-use Rattle.tb_plain.specs.declared.trees.Expr.{Expr}
-use Rattle.tb_plain.specs.declared.trees.TypeMember.{TypeMember}
-use Rattle.tb_plain.specs.declared.trees.Declarator.{Declarator}
-use Rattle.tb_plain.specs.declared.trees.Declaration.{Declaration}
-use Rattle.tb_tree.specs.Sym.{Sym, Mark}
-use Rattle.tb_plain.specs.Grammar.{max_depth, IsType, IsExpr, IsAnnotation, IsValue, IsDeclarator, IsTypeMember, IsTypeMembers, IsDeclaration}
+use Rattle.tb_tree.specs.declared.words.Word.{Word}
+use Rattle.tb_tree.specs.declared.words.Class.TheVariants as c
+use Rattle.tb_tree.specs.declared.items.Base.{Base}
+use Rattle.tb_tree.specs.declared.items.ClassMember.{ClassMember}
+use Rattle.tb_tree.specs.declared.items.ClassDeclaration.{ClassDeclaration}
+use Rattle.tb_tree.specs.declared.items.Interface.{Interface}
+use Rattle.tb_tree.specs.declared.items.Alias.{Alias}
+use Rattle.tb_tree.specs.declared.items.Declaration.{Declaration}
+use Rattle.tb_tree.specs.declared.items.Item.{Item}
+use Rattle.tb_tree.specs.Sym.{Sym, Mark, Lex}
+use Rattle.tb_tree.specs.Items.{IsBases, IsInterface, IsAlias, IsClassMember, IsClassMembers, IsClass, IsDeclaration, IsItem}
+use Rattle.tb_parse_body.specs.Rules.{Deep}
 
-abbrev pub TypeRule : List Sym → TypeExpr → Type 0
-TypeRule xs of = (own : ℕ) × (depth : ℕ) × IsType xs of own depth × (own ≤ max_depth)
+-- ---- declarations
 
-abbrev pub ExprRule : List Sym → Expr → Type 0
-ExprRule xs of = (depth : ℕ) × IsExpr xs of depth
+abbrev pub BasesRule : Word → List Sym → List Base → Type 0
+BasesRule kind = IsBases kind
 
-abbrev pub AnnotationRule : List Sym → Option TypeExpr → Type 0
-AnnotationRule xs of = (depth : ℕ) × IsAnnotation xs of depth
+abbrev pub InterfaceUpto : ℕ → List Sym → Deep Interface → Type 0
+InterfaceUpto n xs r = IsInterface xs r.0 r.1 × (r.1 ≤ n)
 
-abbrev pub ValueRule : List Sym → Option Expr → Type 0
-ValueRule xs of = (depth : ℕ) × IsValue xs of depth
+abbrev pub AliasUpto : ℕ → List Sym → Deep Alias → Type 0
+AliasUpto n xs r = IsAlias xs r.0 r.1 × (r.1 ≤ n)
 
-abbrev pub DeclaratorRule : VarKind → List Sym → Declarator → Type 0
-DeclaratorRule kind xs of = (depth : ℕ) × IsDeclarator kind xs of depth
+-- a member, and whether it is a constructor, which it may be only where none was before
+abbrev pub MemberUpto : Bool → ℕ → List Sym → Deep (ClassMember × Bool) → Type 0
+MemberUpto before n xs r = IsClassMember true r.0.1 xs r.0.0 r.1 × ((before && r.0.1) ≡ false) × (r.1 ≤ n)
 
-abbrev pub MemberRule : List Sym → TypeMember → Type 0
-MemberRule xs of = (depth : ℕ) × IsTypeMember xs of depth
+abbrev pub MembersUpto : Bool → ℕ → List Sym → Deep (List ClassMember) → Type 0
+MembersUpto before n xs r = (here : Bool) × IsClassMembers true here xs r.0 r.1 × ((before && here) ≡ false) × (r.1 ≤ n)
 
--- a member and `;`
-abbrev pub MemberLine : List Sym → TypeMember → Type 0
-MemberLine xs of = (ys : List Sym) × (semicolon : ℕ) × (xs ≡ ys ++ Mark m.Semicolon semicolon ∷ []) × MemberRule ys of
+abbrev pub ClassUpto : ℕ → List Sym → Deep ClassDeclaration → Type 0
+ClassUpto n xs r = IsClass true xs r.0 r.1 × (r.1 ≤ n)
 
-abbrev pub MembersRule : List Sym → List TypeMember → Type 0
-MembersRule xs of = (depth : ℕ) × IsTypeMembers xs of depth
+abbrev pub DeclarationUpto : ℕ → List Sym → Deep Declaration → Type 0
+DeclarationUpto n xs r = IsDeclaration true xs r.0 r.1 × (r.1 ≤ n)
 
-abbrev pub DeclarationRule : List Sym → Declaration → Type 0
-DeclarationRule xs of = (depth : ℕ) × IsDeclaration xs of depth
+abbrev pub ItemUpto : ℕ → List Sym → Deep Item → Type 0
+ItemUpto n xs r = IsItem true xs r.0 r.1 × (r.1 ≤ n)
 
--- an annotation may be absent where there is none, and then goes on with `:`
-abbrev pub begins_annotation : Sym → Bool
-begins_annotation (Mark m.Colon at) = true
-begins_annotation _ = false
+-- ---- how a reading may go on
 
-abbrev pub InAnnotation : Sym → Type 0
-InAnnotation s = begins_annotation s ≡ true
+-- behind a Spec, and behind a modifier that may be a name: a word
+abbrev pub is_word : Sym → Bool
+is_word (Lex (c.Word kind) spelled at) = true
+is_word _ = false
 
--- members end before `}`
-abbrev pub ends_members : Sym → Bool
-ends_members (Mark m.CloseBrace at) = true
-ends_members _ = false
+abbrev pub InSpec : Sym → Type 0
+InSpec s = is_word s ≡ true
+
+-- Bases end before `{`, and members before `}`.
+abbrev pub is_open_brace : Sym → Bool
+is_open_brace (Mark m.OpenBrace at) = true
+is_open_brace _ = false
+
+abbrev pub InBases : Sym → Type 0
+InBases s = is_open_brace s ≡ false
+
+abbrev pub is_close_brace : Sym → Bool
+is_close_brace (Mark m.CloseBrace at) = true
+is_close_brace _ = false
 
 abbrev pub InMembers : Sym → Type 0
-InMembers s = ends_members s ≡ false
+InMembers s = is_close_brace s ≡ false

@@ -5,21 +5,24 @@ ghost use Rattle.std.specs.Prelude.{◌≡◌};
 ghost use Rattle.tb_text.specs.Messages.{without_mark};
 ghost use Rattle.tb_parse_file.specs.Files as spec;
 
+mod choice;
+mod classes;
+mod declarations;
+mod fronts;
+mod imports;
+mod items;
 mod laws;
-mod parse;
-mod reader;
-mod symbols;
 #[cfg(test)]
 mod tests;
 
+use items::{Reading, items};
 pub use laws::readings_are_determined;
-use parse::Reading;
-use reader::Reader;
 use std::alloc::Global;
 use std::str;
-use tb_plain::File;
+use tb_parse_type::Reader;
 use tb_scan::scan;
 use tb_text::{Code, Finding, Name, NoMemory};
+use tb_tree::File;
 use thiserror::Error;
 
 /// An item has no reading.
@@ -76,7 +79,7 @@ fn read_text(alloc: Global, text: &str) -> Result<File, FileFault>
         tokens: tokens.as_slice(),
         text,
     };
-    match reader.items()? {
+    match items(reader)? {
         Reading::Items(items) => Ok(File { items }),
         Reading::StopsAt(at) => Err(FileFault::Syntax(finding(alloc, at, NO_ITEM))),
     }

@@ -1,3 +1,2 @@
-pub mod Deep
 mod Differ
-pub mod Unique
+mod ForAll

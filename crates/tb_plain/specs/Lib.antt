@@ -1,9 +1,5 @@
-pub mod Bare
-pub mod Bases
-pub mod Depth
-pub mod Erase
-pub mod Grammar
+pub mod Form
 pub mod Layout
 pub mod Plain
-pub mod Reading
 pub mod Surface
+pub mod Written

@@ -1,17 +1,17 @@
-//! Plain files: their trees and grammar, and what erasing, surfaces and the two layouts are of them.
+//! Plain files: which files of the whole grammar they are, their trees, and what their surfaces and declarations are.
 #![tactic(auto)]
 
-mod bases;
-mod depths;
+mod form;
 mod plain;
 #[cfg(test)]
 mod tests;
 mod trees;
+mod written;
 
-pub use bases::base_of;
-pub use depths::depth;
+pub use form::plain_of;
 pub use plain::is_plain;
 pub use trees::{
     Alias, BaseType, Declaration, Declarator, Declared, Expr, File, Interface, Item, Key, Surface,
     SurfaceItem, TypeExpr, TypeMember, VarKind,
 };
+pub use written::is_written_plainly;

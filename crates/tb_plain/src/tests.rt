@@ -1,12 +1,11 @@
 use crate::{
     Alias, BaseType, Declaration, Declarator, Expr, File, Interface, Item, Key, TypeExpr,
-    TypeMember, VarKind, base_of, depth, is_plain,
+    TypeMember, VarKind, is_plain,
 };
 use std::alloc::Global;
 use std::rt::HostRuntime;
 use std::test::Fail;
 use tb_text::{List, Name, NoMemory};
-use tb_tree::word_of;
 
 fn base(base: BaseType) -> TypeExpr {
     TypeExpr::Base { at: 0, base }
@@ -113,14 +112,6 @@ fn decides_plain_files(rt: HostRuntime) -> Result<(), Fail> {
     Ok(())
 }
 
-#[test]
-fn measures_items(rt: HostRuntime) -> Result<(), Fail> {
-    let item = exported(rt.alloc(), 3)?;
-    assert_eq!(rt; depth(&item), 1);
-    assert_eq!(rt; depth(&Item::ExportList { at: 0 }), 0);
-    Ok(())
-}
-
 // A file of one alias whose parts are at this offset.
 fn placed(alloc: Global, at: usize, name: &str) -> Result<File, NoMemory> {
     let alias = Alias {
@@ -144,20 +135,5 @@ fn equality_leaves_offsets_out(rt: HostRuntime) -> Result<(), Fail> {
     let file = placed(rt.alloc(), 0, "A")?;
     assert!(rt; file == placed(rt.alloc(), 7, "A")?);
     assert!(rt; file != placed(rt.alloc(), 0, "B")?);
-    Ok(())
-}
-
-#[test]
-fn tells_base_types_apart(rt: HostRuntime) -> Result<(), Fail> {
-    let cases = [
-        ("number", Some(BaseType::Number)),
-        ("string", Some(BaseType::String)),
-        ("boolean", Some(BaseType::Boolean)),
-        ("any", None),
-        ("Number", None),
-    ];
-    for (text, wanted) in cases {
-        assert!(rt; base_of(word_of(text.as_bytes())) == wanted, "{text}");
-    }
     Ok(())
 }

@@ -3,12 +3,14 @@ use Rattle.std.proofs.Common.{◌≡◌, ◌++◌, ◌<◌, ◌∙◌, ℕ, ◌+
 use Rattle.std.specs.Prelude.{All, Option, Some, None, ◌&&◌, nat_le}
 use Rattle.std.specs.List.{AllByRecursion, list_all}
 use Rattle.std.proofs.lemmas.Bool.{le-leb, leb-true}
-use Rattle.std.proofs.lemmas.List.{length-map, map_push}
+use Rattle.std.proofs.lemmas.List.{append-nil, length-map, length-take-le, map_push}
 use Rattle.std.proofs.lemmas.List.Elements.{All-from_recursion, recursion_from_All}
 use Rattle.std.proofs.lemmas.List.Folds.{list_all-append}
 use Rattle.tb_text.specs.Paths.{is_path, is_segment, segments}
 use Rattle.tb_text.proofs.Segments.{and_both, split, split_append}
 use Rattle.tb_face.specs.Outputs.{info_text, new_info_text}
+use Rattle.tb_text.specs.declared.findings.Diag.{Diag}
+use Rattle.tb_session.specs.Builds.{diags_from, project_diags}
 use Rattle.tb_plan.specs.declared.plans.Project.{Project}
 use Rattle.tb_session.specs.declared.publishes.Script.{Script}
 use Rattle.tb_session.specs.Generations.{Tree}
@@ -72,34 +74,51 @@ all_push : {X : Type 0} (P : X → Type 0) (xs : List X) (x : X) → AllByRecurs
 all_push P [] x all is = (is, tt)
 all_push P (y ∷ xs) x all is = (all.0, all_push P xs x all.1 is)
 
+-- ---- what is found
+
+diags_push : (n : ℕ) (builds : List Build) (build : Build) → diags_from n (builds ++ build ∷ []) ≡ diags_from n builds ++ project_diags (n + length builds) build
+diags_push n [] build = append-nil (project_diags n build) ∙ ap (λ m. project_diags m build) (omega arith)
+diags_push n (b ∷ builds) build =
+    ap (λ rest. project_diags n b ++ rest) (diags_push (n + 1) builds build ∙ ap (λ m. diags_from (n + 1) builds ++ project_diags m build) (omega arith))
+    ∙ sym (append_assoc (project_diags n b) (diags_from (n + 1) builds) (project_diags (n + length (b ∷ builds)) build))
+
+from_zero : (n : ℕ) → n ≡ 0 + n
+from_zero n = omega arith
+
 module _ (texts : Tree) where
-  -- what was made of these projects
-  abbrev pub AreBuilt : List Project → List Script → Type 0
-  AreBuilt projects scripts = (builds : List Build) × (projects_in builds ≡ projects) × All (IsBuild texts) builds × AreScripts builds scripts
+  -- what was made of these projects, and what was found in them
+  abbrev pub AreBuilt : List Project → List Script → List Diag → Type 0
+  AreBuilt projects scripts diags = (builds : List Build) × (projects_in builds ≡ projects) × All (IsBuild texts) builds × AreScripts builds scripts × (diags ≡ diags_from 0 builds)
 
-  one_built : (projects : List Project) (i : ℕ) (project : Project) (build : Build) (scripts : List Script) (builds : List Build) → i < length projects → project ≡ get_or projects i project → build.project ≡ project
-      → projects_in builds ≡ take i projects → All (IsBuild texts) builds → IsBuild texts build → AreScripts (builds ++ build ∷ []) scripts → AreBuilt (take (i + 1) projects) scripts
-  one_built projects i project build scripts builds lt at same are all is script = (
-    builds ++ build ∷ [],
-    map_push (λ (b : Build). b.project) builds build ∙ (λ j. are j ++ same j ∷ []) ∙ sym (taken projects i project lt at),
-    All-from_recursion (IsBuild texts) (builds ++ build ∷ []) (all_push (IsBuild texts) builds build (recursion_from_All (IsBuild texts) builds all) is),
-    script,
-  )
+  one_built : (projects : List Project) (i : ℕ) (project : Project) (build : Build) (scripts : List Script) (builds : List Build) (diags new : List Diag) → i < length projects → project ≡ get_or projects i project
+      → build.project ≡ project → projects_in builds ≡ take i projects → All (IsBuild texts) builds → IsBuild texts build → AreScripts (builds ++ build ∷ []) scripts
+      → diags ≡ diags_from 0 builds → new ≡ diags ++ project_diags i build → AreBuilt (take (i + 1) projects) scripts new
+  one_built projects i project build scripts builds diags new lt at same are all is script found added =
+      let count : length builds ≡ i = sym (length-map builds (λ (b : Build). b.project)) ∙ ap length are ∙ length-take-le i projects (omega (arith, lt)) in (
+        builds ++ build ∷ [],
+        map_push (λ (b : Build). b.project) builds build ∙ (λ j. are j ++ same j ∷ []) ∙ sym (taken projects i project lt at),
+        All-from_recursion (IsBuild texts) (builds ++ build ∷ []) (all_push (IsBuild texts) builds build (recursion_from_All (IsBuild texts) builds all) is),
+        script,
+        added ∙ (λ j. found j ++ project_diags (sym count j) build) ∙ ap (λ n. diags_from 0 builds ++ project_diags n build) (from_zero (length builds)) ∙ sym (diags_push 0 builds build),
+      )
 
-  pub one_more : (projects : List Project) (i : ℕ) (project : Project) (folder : List ℕ) (script : Script) (scripts new : List Script) → i < length projects → project ≡ get_or projects i project → project.setting.folder ≡ Some folder
-      → AreBuilt (take i projects) scripts
+  pub one_more : (projects : List Project) (i number : ℕ) (project : Project) (folder : List ℕ) (script : Script) (scripts new : List Script) (diags more : List Diag) → i < length projects → number ≡ i
+      → project ≡ get_or projects i project → project.setting.folder ≡ Some folder → AreBuilt (take i projects) scripts diags
       → (sources : List Source) × AreSources texts project.setting.root project.inputs sources × (script.config ≡ project.setting.config) × IsScript folder (record { project = project; sources = sources }) script.steps
-      → new ≡ scripts ++ script ∷ [] → AreBuilt (take (i + 1) projects) new
-  one_more projects i project folder script scripts new lt at e built is pushed =
+      × (more ≡ diags ++ project_diags number (record { project = project; sources = sources }))
+      → new ≡ scripts ++ script ∷ [] → AreBuilt (take (i + 1) projects) new more
+  one_more projects i number project folder script scripts new diags more lt here at e built is pushed =
       let build : Build = record { project = project; sources = is.0 } in
-      one_built projects i project build new built.0 lt at refl built.1 built.2 (has_sources texts project project.setting.folder folder is.0 e is.1)
+      one_built projects i project build new built.0 diags more lt at refl built.1 built.2 (has_sources texts project project.setting.folder folder is.0 e is.1)
       (subst (AreScripts (built.0 ++ build ∷ [])) (sym pushed) (more_script built.0 scripts build script folder built.3 e is.2 is.3))
+      built.4 (is.4 ∙ ap (λ n. diags ++ project_diags n build) here)
 
-  pub one_without : (projects : List Project) (i : ℕ) (project : Project) (scripts : List Script) → i < length projects → project ≡ get_or projects i project → project.setting.folder ≡ None
-      → AreBuilt (take i projects) scripts → AreBuilt (take (i + 1) projects) scripts
-  one_without projects i project scripts lt at e built =
+  pub one_without : (projects : List Project) (i : ℕ) (project : Project) (scripts : List Script) (diags : List Diag) → i < length projects → project ≡ get_or projects i project → project.setting.folder ≡ None
+      → AreBuilt (take i projects) scripts diags → AreBuilt (take (i + 1) projects) scripts diags
+  one_without projects i project scripts diags lt at e built =
       let build : Build = record { project = project; sources = [] } in
-      one_built projects i project build scripts built.0 lt at refl built.1 built.2 (subst (λ f. HasSources texts project f []) (sym e) refl) (no_script built.0 scripts build built.3 e)
+      one_built projects i project build scripts built.0 diags diags lt at refl built.1 built.2 (subst (λ f. HasSources texts project f []) (sym e) refl) (no_script built.0 scripts build built.3 e)
+      built.4 (sym (append-nil diags))
 
   -- each project with an output folder is built of its sources
   pub sources_at : (projects : List Project) (i : ℕ) (project : Project) (folder : List ℕ) (builds : List Build) → i < length projects → project ≡ get_or projects i project → project.setting.folder ≡ Some folder

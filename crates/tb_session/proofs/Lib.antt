@@ -10,5 +10,7 @@ mod Reading
 mod Readying
 mod Reporting
 mod Settling
+mod Small
+mod Unread
 mod Writing
 mod Written

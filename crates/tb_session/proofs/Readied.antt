@@ -10,13 +10,13 @@ use Rattle.tb_plan.specs.Orders.{visited}
 use Rattle.tb_plan.specs.Plans.{Planned, Sound, Faulted, plan_of, first_faults, unless_faulty, status_by, is_lost}
 use Rattle.tb_plan.specs.declared.plans.Plan.{Plan}
 use Rattle.tb_session.specs.Blamed.{Blamed}
-use Rattle.tb_session.specs.Builds.{Clean, IsClean, IsNoOutput}
+use Rattle.tb_session.specs.Builds.{Clean, IsClean, IsNoOutput, diags_from}
 use Rattle.tb_session.specs.Ends.{IsSettled}
 use Rattle.tb_session.specs.Generations.{Tree}
 use Rattle.tb_session.specs.Plans.{IsOutside}
 use Rattle.tb_session.specs.Publishes.{FailsAt, steps_of}
 use Rattle.tb_session.specs.Ready.{Writes}
-use Rattle.tb_session.specs.Reports.{status_of}
+use Rattle.tb_session.specs.Reports.{status_of, status_by as by_diags}
 use Rattle.tb_session.specs.declared.publishes.Script.{Script}
 use Rattle.tb_session.proofs.Members.{in_from, in_back}
 use Rattle.tb_session.proofs.Written as written
@@ -54,13 +54,17 @@ no_script : (before after : List Script) (script : Script) → [] ≡ before ++ 
 no_script [] after script e = cc
 no_script (b ∷ before) after script e = cc
 
+built_settles : (diags : List Diag) → IsSettled (by_diags None diags)
+built_settles [] = omega arith
+built_settles (diag ∷ rest) = omega arith
+
 module _ (texts : Tree) (roots : List (List ℕ)) where
   pub is_clean : (clean : Clean) (scripts : List Script) → Writes texts roots clean scripts → IsClean texts roots clean
   is_clean clean scripts (Writes.built builds plan ok are script) = IsClean.built builds plan are
   is_clean clean scripts (Writes.faulted diags status plan) = IsClean.faulted diags status plan
 
   pub settles : (clean : Clean) (scripts : List Script) → Writes texts roots clean scripts → IsSettled (status_of clean)
-  settles clean scripts (Writes.built builds plan ok are script) = omega arith
+  settles clean scripts (Writes.built builds plan ok are script) = built_settles (diags_from 0 builds)
   settles clean scripts (Writes.faulted diags status plan) = faulted_settles texts roots diags status plan
 
   pub all_read : (clean : Clean) (scripts : List Script) → Writes texts roots clean scripts → (files : Files) → AllByRecursion (λ output. read_after_all (steps_of scripts) files output.0 ≡ Some output.1) clean.outputs

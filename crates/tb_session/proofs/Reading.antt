@@ -1,5 +1,5 @@
 -- How inputs are read as sources.
-use Rattle.std.proofs.Common.{◌≡◌, ◌++◌, ◌<◌, ◌∙◌, ℕ, zero, suc, ◌+◌, arith, List, [], ◌∷◌, length, get_or, take, map, codes, refl, sym, subst}
+use Rattle.std.proofs.Common.{◌≡◌, ◌++◌, ◌<◌, ◌∙◌, ℕ, zero, suc, ◌+◌, arith, List, [], ◌∷◌, length, get_or, take, map, flat_map, codes, refl, sym, ap, subst}
 use Rattle.std.specs.Prelude.{Contains}
 use Rattle.std.specs.List.{AllZip}
 use Rattle.std.proofs.lemmas.List.{map_push}
@@ -8,10 +8,11 @@ use Rattle.tb_plan.specs.Laws.{HasPaths}
 use Rattle.tb_plan.specs.Outputs.{texts_by}
 use Rattle.tb_plan.specs.declared.plans.Project.{Project}
 use Rattle.tb_session.specs.declared.sources.Emitted.{Emitted}
-use Rattle.tb_session.specs.Emitted.{emitted_of}
+use Rattle.tb_session.specs.Emitted.{emitted_of, emitted_with, content_of, entry_diags}
+use Rattle.tb_session.specs.Builds.{source_diags}
 use Rattle.tb_session.specs.Generations.{Tree}
 use Rattle.tb_session.specs.Placed.{HaveOutputPaths}
-use Rattle.tb_session.specs.Sources.{Source, IsSource, AreSources}
+use Rattle.tb_session.specs.Sources.{Reading, Plain, Faulty, Source, IsSource, AreSources}
 use Rattle.tb_session.proofs.Members.{taken}
 
 -- ---- lists that correspond
@@ -28,6 +29,21 @@ module _ {A B : Type 0} (R : A → B → Type 0) where
   zip_at (a ∷ xs) [] k d e all lt = absurd all
   zip_at (a ∷ xs) (b ∷ ys) zero d e all lt = all.0
   zip_at (a ∷ xs) (b ∷ ys) (suc k) d e all lt = zip_at xs ys k d e all.1 (omega (arith, lt))
+
+-- ---- what is made of an input
+
+with_content : (folder path stem text : List ℕ) (reading : Reading)
+    → emitted_with folder path stem (content_of text reading) ≡ emitted_of folder (record { path = path; stem = stem; text = text; reading = reading })
+with_content folder path stem text (Plain file form) = refl
+with_content folder path stem text (Faulty finding) = refl
+
+pub emits : (folder : List ℕ) (source : Source) → emitted_with folder source.path source.stem (content_of source.text source.reading) ≡ emitted_of folder source
+emits folder source = with_content folder source.path source.stem source.text source.reading
+
+-- what is found in them is what is recorded
+pub found_diags : (number : ℕ) (folder : List ℕ) (sources : List Source) → flat_map (λ each. entry_diags number each.entry) (map (emitted_of folder) sources) ≡ flat_map (source_diags number) sources
+found_diags number folder [] = refl
+found_diags number folder (source ∷ rest) = ap (λ l. source_diags number source ++ l) (found_diags number folder rest)
 
 -- ---- one input after the other
 
@@ -48,7 +64,7 @@ module _ (texts : Tree) (root folder : List ℕ) where
   pub source_at : (paths : List (List ℕ)) (sources : List Source) (k : ℕ) (path : List ℕ) → AreSources texts root paths sources → k < length paths → path ≡ get_or paths k path
       → (source : Source) × IsSource texts root path source
   source_at paths sources k path are within is =
-      let none : Source = record { path = []; stem = []; text = []; file = record { items = [] } } in
+      let none : Source = record { path = []; stem = []; text = []; reading = Plain (record { items = [] }) (record { items = [] }) } in
       (get_or sources k none, subst (λ (p : List ℕ). IsSource texts root p (get_or sources k none)) (sym is) (zip_at (IsSource texts root) paths sources k path none are within))
 
 -- ---- where the outputs stand

@@ -2,7 +2,7 @@
 use Rattle.std.proofs.Common.{◌≡◌, ℕ, zero, suc, ◌+◌, List, [], ◌∷◌, ◌++◌, get_or, set, map, swap, flat_map, IsPermutation, IsSortedByKey, refl, sym, ap, ◌∙◌, subst, arith}
 use Rattle.std.specs.List.Sorted.{apply_swaps, SwapsInRange}
 use Rattle.std.specs.Ordering.{is_lt}
-use Rattle.std.proofs.lemmas.List.{map-set, length-map, map_push}
+use Rattle.std.proofs.lemmas.List.{map-set, map-append, length-map, map_push}
 use Rattle.tb_text.specs.Bytes.{bytes_cmp}
 use Rattle.tb_face.specs.Infos.{spelling}
 use Rattle.tb_face.specs.Outputs.{info_text}
@@ -12,10 +12,10 @@ use Rattle.tb_outside.specs.declared.disks.DiskStep.TheVariants.{Write}
 use Rattle.tb_session.specs.declared.sources.Emitted.{Emitted}
 use Rattle.tb_session.specs.declared.sources.Writes.{Writes}
 use Rattle.tb_plan.specs.declared.plans.Project.{Project}
-use Rattle.tb_session.specs.Builds.{outputs_of, info_output, info_with, record_of}
+use Rattle.tb_session.specs.Builds.{outputs_by, outputs_of, info_output, info_with, record_of}
 use Rattle.tb_session.specs.Scripts.{write_of, IsScript}
-use Rattle.tb_session.specs.Sources.{Source, Build}
-use Rattle.tb_session.specs.Emitted.{emitted_of, writes_of}
+use Rattle.tb_session.specs.Sources.{Reading, Plain, Faulty, Source, Build}
+use Rattle.tb_session.specs.Emitted.{emitted_of, writes_of, output_steps, steps_by}
 
 -- ---- a permutation of the values of a function
 
@@ -46,7 +46,11 @@ module _ {X Y : Type 0} (f : X → Y) where
 -- ---- the steps
 
 abbrev pub own_steps : Writes → List DiskStep
-own_steps own = own.js ∷ own.declaration ∷ []
+own_steps own = output_steps own.outputs
+
+steps_of_one : (folder stem : List ℕ) (reading : Reading) → output_steps (steps_by folder stem reading) ≡ map write_of (outputs_by folder stem reading)
+steps_of_one folder stem (Plain file form) = refl
+steps_of_one folder stem (Faulty finding) = refl
 
 abbrev pub info_write : List ℕ → Project → List Entry → DiskStep
 info_write folder project entries = Write (info_text folder) (spelling (info_with project entries))
@@ -61,7 +65,7 @@ module _ (folder : List ℕ) where
 
   steps_are : (zs : List Source) → flat_map own_steps (map (writes_of folder) zs) ≡ map write_of (flat_map (outputs_of folder) zs)
   steps_are [] = refl
-  steps_are (z ∷ zs) = ap (λ (rest : List DiskStep). (writes_of folder z).js ∷ (writes_of folder z).declaration ∷ rest) (steps_are zs)
+  steps_are (z ∷ zs) = (λ i. steps_of_one folder z.stem z.reading i ++ steps_are zs i) ∙ sym (map-append write_of (outputs_of folder z) (flat_map (outputs_of folder) zs))
 
   entries_are : (sources : List Source) → map (λ (each : Emitted). each.entry) (map (emitted_of folder) sources) ≡ map record_of sources
   entries_are [] = refl

@@ -16,12 +16,13 @@ use Rattle.tb_plan.specs.Laws.{PlanOk}
 use Rattle.tb_plan.specs.Plans.{plan_of, Sound}
 use Rattle.tb_plan.specs.declared.plans.Project.{Project}
 use Rattle.tb_session.specs.Blamed.{Blamed}
-use Rattle.tb_session.specs.Builds.{js_of, declaration_of, js_output, declaration_output, outputs_of, info_output, outputs_in, project_outputs}
+use Rattle.tb_session.specs.Builds.{js_of, declaration_of, outputs_by, outputs_of, info_output, outputs_in, project_outputs}
+use Rattle.tb_face.specs.Outputs.{output_text}
 use Rattle.tb_session.specs.Generations.{Tree}
 use Rattle.tb_session.specs.Plans.{IsOutside}
 use Rattle.tb_session.specs.Publishes.{FailsAt, steps_of}
 use Rattle.tb_session.specs.Scripts.{write_of, IsScript, AreScripts}
-use Rattle.tb_session.specs.Sources.{Source, Build, IsSource, AreSources, HasSources, IsBuild, projects_in}
+use Rattle.tb_session.specs.Sources.{Reading, Plain, Faulty, Source, Build, IsSource, AreSources, HasSources, IsBuild, projects_in}
 use Rattle.tb_session.specs.declared.publishes.Script.{Script}
 use Rattle.tb_session.proofs.Members.{In, in_left, in_right, in_append, in_flat, flat_in, in_map, all_by, each_of, in_permuted, in_from, in_back}
 use Rattle.tb_session.proofs.OneBuild.{one_source}
@@ -95,20 +96,39 @@ same_source texts root a b p q e =
     let same : b.path ≡ a.path = one_path root b.path a.path a.stem (q.stem ∙ ap Some (sym e)) p.stem in
     one_source texts root a.path a b p (subst (λ (path : List ℕ). IsSource texts root path b) same q)
 
+-- the JavaScript and the declaration of a source, if it has them
+abbrev js_in : Reading → List ℕ
+js_in (Plain file form) = js_of file
+js_in (Faulty finding) = []
+
+abbrev declaration_in : Reading → List ℕ
+declaration_in (Plain file form) = declaration_of form
+declaration_in (Faulty finding) = []
+
+abbrev js_at : List ℕ → Source → Output
+js_at folder source = (output_text folder source.stem (codes ".js"), js_in source.reading)
+
+abbrev declaration_at : List ℕ → Source → Output
+declaration_at folder source = (output_text folder source.stem (codes ".d.ts"), declaration_in source.reading)
+
 -- an output is the JavaScript or the declaration of a source, or the info
 data Kind (folder : List ℕ) (build : Build) : Output → Type 0 where
-  js : (source : Source) → In build.sources source → Kind folder build (js_output folder source)
-  declaration : (source : Source) → In build.sources source → Kind folder build (declaration_output folder source)
+  js : (source : Source) → In build.sources source → Kind folder build (js_at folder source)
+  declaration : (source : Source) → In build.sources source → Kind folder build (declaration_at folder source)
   info : Kind folder build (info_output folder build)
 
-kind_by : (folder : List ℕ) (build : Build) (source : Source) (o : Output) → In build.sources source → In (outputs_of folder source) o → Kind folder build o
-kind_by folder build source o there has = elim has [
-  | inl e ↦ subst (Kind folder build) e (Kind.js source there)
+kind_as : (folder : List ℕ) (build : Build) (source : Source) (o : Output) (reading : Reading) → source.reading ≡ reading → In build.sources source → In (outputs_by folder source.stem reading) o → Kind folder build o
+kind_as folder build source o (Plain file form) is there has = elim has [
+  | inl e ↦ subst (Kind folder build) (ap (λ (r : Reading). (output_text folder source.stem (codes ".js"), js_in r)) is ∙ e) (Kind.js source there)
   | inr more ↦ elim more [
-    | inl e ↦ subst (Kind folder build) e (Kind.declaration source there)
+    | inl e ↦ subst (Kind folder build) (ap (λ (r : Reading). (output_text folder source.stem (codes ".d.ts"), declaration_in r)) is ∙ e) (Kind.declaration source there)
     | inr none ↦ absurd none
   ]
 ]
+kind_as folder build source o (Faulty finding) is there has = absurd has
+
+kind_by : (folder : List ℕ) (build : Build) (source : Source) (o : Output) → In build.sources source → In (outputs_of folder source) o → Kind folder build o
+kind_by folder build source o there has = kind_as folder build source o source.reading refl there has
 
 kind_of : (folder : List ℕ) (build : Build) (o : Output) → In (outputs_in (Some folder) build) o → Kind folder build o
 kind_of folder build o has = elim (in_append (flat_map (outputs_of folder) build.sources) (info_output folder build ∷ []) o has) [
@@ -132,11 +152,11 @@ module _ (texts : Tree) (folder : List ℕ) (build : Build) (are : AllByRecursio
       same_source texts root a b (each_of (IsAtPath texts root) build.sources a are i) (each_of (IsAtPath texts root) build.sources b are j) e
 
   kinds_agree : (o p : Output) → Kind folder build o → Kind folder build p → o.0 ≡ p.0 → o.1 ≡ p.1
-  kinds_agree o p (Kind.js a i) (Kind.js b j) e = ap js_of (one_source_of a b i j (one_stem folder a.stem b.stem (codes ".js") e))
+  kinds_agree o p (Kind.js a i) (Kind.js b j) e = ap (λ (s : Source). js_in s.reading) (one_source_of a b i j (one_stem folder a.stem b.stem (codes ".js") e))
   kinds_agree o p (Kind.js a i) (Kind.declaration b j) e = absurd (js_not_declaration folder a.stem b.stem e)
   kinds_agree o p (Kind.js a i) Kind.info e = absurd (js_not_info folder a.stem e)
   kinds_agree o p (Kind.declaration a i) (Kind.js b j) e = absurd (js_not_declaration folder b.stem a.stem (sym e))
-  kinds_agree o p (Kind.declaration a i) (Kind.declaration b j) e = ap declaration_of (one_source_of a b i j (one_stem folder a.stem b.stem (codes ".d.ts") e))
+  kinds_agree o p (Kind.declaration a i) (Kind.declaration b j) e = ap (λ (s : Source). declaration_in s.reading) (one_source_of a b i j (one_stem folder a.stem b.stem (codes ".d.ts") e))
   kinds_agree o p (Kind.declaration a i) Kind.info e = absurd (declaration_not_info folder a.stem e)
   kinds_agree o p Kind.info (Kind.js b j) e = absurd (js_not_info folder b.stem (sym e))
   kinds_agree o p Kind.info (Kind.declaration b j) e = absurd (declaration_not_info folder b.stem (sym e))

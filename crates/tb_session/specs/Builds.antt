@@ -1,19 +1,22 @@
 -- What a clean build of a tree of texts gives: it compiles the projects of the plan in order, each whole. This project's own.
-use Rattle.std.specs.Prelude.{ℕ, ◌≡◌, ◌≢◌, ◌++◌, Contains, List, [], ◌∷◌, Option, Some, None, All, codes, length, map, flat_map, sum_by, count_by, not, nat_eq}
+use Rattle.std.specs.Prelude.{ℕ, ◌+◌, ◌≡◌, ◌≢◌, ◌++◌, Contains, List, [], ◌∷◌, Option, Some, None, All, codes, length, map, flat_map, sum_by, count_by, not, nat_eq}
 use Rattle.tb_text.specs.declared.findings.Diag.{Diag}
+use Rattle.tb_text.specs.declared.findings.Finding.{Finding}
 use Rattle.tb_text.specs.declared.statuses.Status.{Status}
 use Rattle.tb_face.specs.Digests.{sha}
 use Rattle.tb_face.specs.Infos.{spelling}
 use Rattle.tb_face.specs.Outputs.{output_text, info_text}
 use Rattle.tb_face.specs.declared.infos.Entry.{Entry}
 use Rattle.tb_face.specs.declared.infos.Info.{Info}
-use Rattle.tb_plain.specs.Erase.{erase}
-use Rattle.tb_plain.specs.Layout.{js_text}
+use Rattle.tb_layout.specs.Erase.{erase}
+use Rattle.tb_layout.specs.Js.{js_text}
 use Rattle.tb_plain.specs.Surface.{surface, dts_text}
+use Rattle.tb_plain.specs.declared.trees.File.{File as PlainFile}
 use Rattle.tb_plan.specs.Plans.{plan_of, Sound, Faulted}
 use Rattle.tb_plan.specs.declared.plans.Project.{Project}
+use Rattle.tb_tree.specs.declared.items.File.{File}
 use Rattle.tb_session.specs.Generations.{Tree}
-use Rattle.tb_session.specs.Sources.{Source, Build, IsBuild, projects_in}
+use Rattle.tb_session.specs.Sources.{Reading, Plain, Faulty, Source, Build, IsBuild, projects_in}
 
 -- the bytes at each output path, the diagnostics in order, and the projects in plan order; and the status of the plan's
 -- faults, where it has any
@@ -33,32 +36,46 @@ builds_of clean = count_by (λ project. not (nat_eq (length project.inputs) 0)) 
 
 -- ---- one source
 
--- its JavaScript, without its types; and its declarations, which are what others see of it
-abbrev pub js_of : Source → List ℕ
-js_of source = js_text (erase source.file)
+-- the JavaScript of a file, which is the file without its types; and its declarations, which are what others see of it
+abbrev pub js_of : File → List ℕ
+js_of file = js_text (erase file)
 
-abbrev pub declaration_of : Source → List ℕ
-declaration_of source = dts_text (surface source.file)
+abbrev pub declaration_of : PlainFile → List ℕ
+declaration_of form = dts_text (surface form)
 
--- the bytes at its output paths, in an output folder
-abbrev pub js_output : List ℕ → Source → List ℕ × List ℕ
-js_output folder source = (output_text folder source.stem (codes ".js"), js_of source)
+-- the bytes at the output paths of a stem in an output folder; a source with a fault has none
+abbrev pub js_output : List ℕ → List ℕ → File → List ℕ × List ℕ
+js_output folder stem file = (output_text folder stem (codes ".js"), js_of file)
 
-abbrev pub declaration_output : List ℕ → Source → List ℕ × List ℕ
-declaration_output folder source = (output_text folder source.stem (codes ".d.ts"), declaration_of source)
+abbrev pub declaration_output : List ℕ → List ℕ → PlainFile → List ℕ × List ℕ
+declaration_output folder stem form = (output_text folder stem (codes ".d.ts"), declaration_of form)
+
+abbrev pub outputs_by : List ℕ → List ℕ → Reading → List (List ℕ × List ℕ)
+outputs_by folder stem (Plain file form) = js_output folder stem file ∷ declaration_output folder stem form ∷ []
+outputs_by folder stem (Faulty finding) = []
 
 abbrev pub outputs_of : List ℕ → Source → List (List ℕ × List ℕ)
-outputs_of folder source = js_output folder source ∷ declaration_output folder source ∷ []
+outputs_of folder source = outputs_by folder source.stem source.reading
 
--- what is recorded of it: a plain file imports nothing, so it has no edges and reaches nothing
+-- the digest of its declarations, of which a source with a fault has none
+abbrev pub signature_of : Reading → Option (List ℕ)
+signature_of (Plain file form) = Some (sha (declaration_of form))
+signature_of (Faulty finding) = None
+
+-- what is found in it: its fault, if it has one
+abbrev pub findings_of : Reading → List Finding
+findings_of (Plain file form) = []
+findings_of (Faulty finding) = finding ∷ []
+
+-- what is recorded of it: a plain file imports nothing, and a file with a fault has no edges, so it reaches nothing
 abbrev pub record_of : Source → Entry
 record_of source = record {
   path = source.path;
   version = sha source.text;
-  signature = Some (sha (declaration_of source));
+  signature = signature_of source.reading;
   edges = [];
   reach = [];
-  findings = [];
+  findings = findings_of source.reading;
 }
 
 -- ---- one project
@@ -85,11 +102,26 @@ outputs_in (Some folder) build = flat_map (outputs_of folder) build.sources ++ i
 abbrev pub project_outputs : Build → List (List ℕ × List ℕ)
 project_outputs build = outputs_in build.project.setting.folder build
 
+-- what is found in the project of this number: in one input after the other, as they ascend, so that the diagnostics stand in order
+abbrev pub diag_of : ℕ → List ℕ → Finding → Diag
+diag_of number path finding = record { project = number; path = path; finding = finding }
+
+abbrev pub source_diags : ℕ → Source → List Diag
+source_diags number source = map (diag_of number source.path) (findings_of source.reading)
+
+abbrev pub project_diags : ℕ → Build → List Diag
+project_diags number build = flat_map (source_diags number) build.sources
+
 -- ---- the whole
+
+-- what is found in all projects, the first of which has this number
+abbrev pub diags_from : ℕ → List Build → List Diag
+diags_from number [] = []
+diags_from number (build ∷ rest) = project_diags number build ++ diags_from (number + 1) rest
 
 -- what is built of these projects
 abbrev pub build_of : List Build → Clean
-build_of builds = record { outputs = flat_map project_outputs builds; diags = []; projects = projects_in builds; faulted = None }
+build_of builds = record { outputs = flat_map project_outputs builds; diags = diags_from 0 builds; projects = projects_in builds; faulted = None }
 
 -- of a plan with faults nothing is built
 abbrev pub faulted_of : List Diag → Status → Clean

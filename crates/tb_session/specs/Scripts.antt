@@ -1,5 +1,5 @@
 -- What is done on the disk for a build: project after project, the outputs are written in ascending order of their stems, each
--- JavaScript before its declaration, and then the info. This project's own.
+-- JavaScript before its declaration, and then the info. A source with a fault writes nothing. This project's own.
 use Rattle.std.specs.Prelude.{ℕ, ◌≡◌, List, [], ◌∷◌, ◌++◌, Some, None, map, flat_map, IsPermutation, IsSortedByKey}
 use Rattle.tb_outside.specs.declared.disks.DiskStep.{DiskStep}
 use Rattle.tb_outside.specs.declared.disks.DiskStep.TheVariants.{Write}

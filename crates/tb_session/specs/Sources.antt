@@ -1,30 +1,52 @@
 -- The sources of a project: what each input reads as. This project's own.
-use Rattle.std.specs.Prelude.{ℕ, ◌≡◌, List, [], Option, Some, None, map as each_of}
+use Rattle.std.specs.Prelude.{ℕ, ◌≡◌, true, List, [], Option, Some, None, map as each_of}
 use Rattle.std.specs.List.{AllZip}
 use Rattle.std.specs.FinMap as map
+use Rattle.tb_text.specs.declared.findings.Finding.{Finding}
 use Rattle.tb_face.specs.Outputs.{stem_text}
-use Rattle.tb_plain.specs.declared.trees.File.{File}
-use Rattle.tb_parse_file.specs.Files.{ReadsPlain}
+use Rattle.tb_tree.specs.declared.items.File.{File}
+use Rattle.tb_parse_file.specs.Files.{ReadsFile, HasFault}
+use Rattle.tb_plain.specs.Form.{plain_of}
+use Rattle.tb_plain.specs.Plain.{is_plain}
+use Rattle.tb_plain.specs.Written.{IsWrittenPlainly}
+use Rattle.tb_plain.specs.declared.trees.File.{File as PlainFile}
 use Rattle.tb_plan.specs.declared.plans.Project.{Project}
 use Rattle.tb_session.specs.Generations.{Tree}
 
--- an input: its path, the stem of its outputs, its text, and the file that the text reads as
+-- what a text reads as: a plain file, as a tree of the whole grammar and in its plain form; or it has one syntax fault
+pub data Reading : Type 0 where
+  Plain : File → PlainFile → Reading
+  Faulty : Finding → Reading
+
+-- the text reads as this file, which is plain and has this form
+pub record IsPlainFile (text : List ℕ) (file : File) (form : PlainFile) : Type 0 where
+  pub reads : ReadsFile text file
+  pub formed : plain_of file ≡ Some form
+  pub plain : is_plain form ≡ true
+  pub written : IsWrittenPlainly text
+
+-- The text reads so. A text that reads as a file that is not plain has no such reading.
+abbrev pub ReadsAs : List ℕ → Reading → Type 0
+ReadsAs text (Plain file form) = IsPlainFile text file form
+ReadsAs text (Faulty finding) = HasFault text finding
+
+-- an input: its path, the stem of its outputs, its text, and what the text reads as
 pub record Source : Type 0 where
   pub path : List ℕ
   pub stem : List ℕ
   pub text : List ℕ
-  pub file : File
+  pub reading : Reading
 
--- the file at a path has this text, which reads as this plain file
-pub record HasFile (texts : Tree) (path text : List ℕ) (file : File) : Type 0 where
+-- the file at a path has this text, which reads so
+pub record HasFile (texts : Tree) (path text : List ℕ) (reading : Reading) : Type 0 where
   pub found : map.get texts path ≡ Some text
-  pub reads : ReadsPlain text file
+  pub reads : ReadsAs text reading
 
--- the input at a path is this source: it is no declaration file, and plain. The stem counts from the project's root
+-- the input at a path is this source: it is no declaration file, and is plain or has a fault. The stem counts from the project's root
 pub record IsSource (texts : Tree) (root path : List ℕ) (source : Source) : Type 0 where
   pub at : source.path ≡ path
   pub stem : stem_text root path ≡ Some source.stem
-  pub has_file : HasFile texts path source.text source.file
+  pub has_file : HasFile texts path source.text source.reading
 
 -- the inputs at these paths are these sources
 abbrev pub AreSources : Tree → List ℕ → List (List ℕ) → List Source → Type 0

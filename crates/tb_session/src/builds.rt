@@ -1,29 +1,43 @@
-//! The projects of a plan, each with the steps that write what is built of it.
+//! The projects of a plan, each with the steps that write what is built of it, and what is found in them.
 
-ghost use Rattle.std.specs.Prelude.{◌≡◌, ◌≤◌, ℕ, All, Contains, IfOk, IfSome, IsNone, IsTrue, List, Some, count_by, length, nat_eq, not, sum_by};
+ghost use Rattle.std.specs.Prelude.{◌≡◌, ◌≤◌, ◌++◌, ℕ, All, Contains, IfOk, IfSome, IsNone, IsTrue, List, Some, count_by, length, nat_eq, not, sum_by};
 ghost use Rattle.tb_plan.specs.Laws.{HasPaths};
-ghost use Rattle.tb_plan.specs.Limits.{most_files};
+ghost use Rattle.tb_plan.specs.Limits.{most_files, most_projects};
 ghost use Rattle.tb_plan.specs.declared.plans.Project.{Project};
+ghost use Rattle.tb_session.specs.Builds.{diags_from, project_diags};
 ghost use Rattle.tb_session.specs.Scripts.{AreScripts, IsScript};
 ghost use Rattle.tb_session.specs.Sources.{Build, Source, AreSources, IsBuild, projects_in};
 
 use crate::publishes::Script;
-use crate::scripts::script_of;
+use crate::scripts::{push_diags, script_of};
 use crate::sources::emit_inputs;
 use std::alloc::Global;
 use tb_plan::Project;
-use tb_text::{List, NoMemory, Path, Texts};
+use tb_text::{Diag, List, NoMemory, Path, Texts};
 
-// The script of a project with this output folder, where all its inputs are sources.
+/// What is done for the projects of a plan.
+#[derive(Drop)]
+pub struct Built {
+    /// Of all projects that have an output folder, in plan order.
+    pub scripts: List<Script>,
+    /// In order.
+    pub diags: List<Diag>,
+}
+
+// The script of a project of this number with this output folder, where all its inputs are sources. What is found in
+// them is added to the diagnostics.
 fn project_script(
     alloc: Global,
     texts: &Texts,
+    number: u32,
     project: &Project,
     folder: &Path,
+    diags: &mut List<Diag>,
 ) -> Result<Option<Script>, NoMemory>
     requires { HasPaths project.now folder.now }
     ensures found { IfOk result (λ found. IfSome found (λ script. (sources : List Source) × AreSources texts.now project.now.setting.root project.now.inputs sources
-        × (script.config ≡ project.now.setting.config) × IsScript folder.now (record { project = project.now; sources = sources }) script.steps)) }
+        × (script.config ≡ project.now.setting.config) × IsScript folder.now (record { project = project.now; sources = sources }) script.steps
+        × (diags.new ≡ diags.old ++ project_diags number (record { project = project.now; sources = sources })))) }
     ensures none { IfOk result (λ found. IsNone found → (sources : List Source) → AreSources texts.now project.now.setting.root project.now.inputs sources → ⊥) }
 {
     let root = &project.setting.root;
@@ -31,32 +45,35 @@ fn project_script(
     let Some(emitted) = emit_inputs(alloc, texts, root, folder, inputs)? else {
         return Ok(None);
     };
+    push_diags(diags, number, emitted.as_slice())?;
     Ok(Some(Script {
         config: project.setting.config.clone()?,
         steps: script_of(alloc, project, folder, emitted)?,
     }))
 }
 
-/// The scripts of all projects that have an output folder, in plan order; none where an input is no source.
-pub fn scripts_of(
-    alloc: Global,
-    texts: &Texts,
-    projects: &[Project],
-) -> Result<Option<List<Script>>, NoMemory>
-    requires { (project : Project) (folder : List ℕ) → Contains projects.now project → project.setting.folder ≡ Some folder → HasPaths project folder }
-    ensures found { IfOk result (λ found. IfSome found (λ scripts. (builds : List Build) × (projects_in builds ≡ projects.now) × All (IsBuild texts.now) builds × AreScripts builds scripts)) }
+/// What is done for these projects; none where an input is no source.
+pub fn build(alloc: Global, texts: &Texts, projects: &[Project]) -> Result<Option<Built>, NoMemory>
+    requires paths { (project : Project) (folder : List ℕ) → Contains projects.now project → project.setting.folder ≡ Some folder → HasPaths project folder }
+    requires few { length projects.now ≤ most_projects }
+    ensures found { IfOk result (λ found. IfSome found (λ built. (builds : List Build) × (projects_in builds ≡ projects.now) × All (IsBuild texts.now) builds × AreScripts builds built.scripts
+        × (built.diags ≡ diags_from 0 builds))) }
     ensures none { IfOk result (λ found. IsNone found → (builds : List Build) → projects_in builds ≡ projects.now → All (IsBuild texts.now) builds → ⊥) }
 {
     let mut scripts = List::new(alloc);
+    let mut diags = List::new(alloc);
+    let mut number = 0;
     for project in projects {
         if let Some(folder) = &project.setting.folder {
-            let Some(script) = project_script(alloc, texts, project, folder)? else {
+            let Some(script) = project_script(alloc, texts, number, project, folder, &mut diags)?
+            else {
                 return Ok(None);
             };
             scripts.push(script)?;
         }
+        number += 1;
     }
-    Ok(Some(scripts))
+    Ok(Some(Built { scripts, diags }))
 }
 
 /// How many inputs the projects have.

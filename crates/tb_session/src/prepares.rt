@@ -4,9 +4,9 @@ ghost use Rattle.tb_plan.specs.Plans.{plan_of, Sound, Faulted};
 ghost use Rattle.tb_session.specs.Headline.{NotServed};
 ghost use Rattle.tb_session.specs.Ready.{IsReady};
 
-use crate::builds::{inputs_in, scripts_of, with_inputs};
+use crate::builds::{Built, build, inputs_in, with_inputs};
 use crate::publishes::Publication;
-use crate::reports::{built_report, faulted_report};
+use crate::reports::{built_report, built_status, faulted_report};
 use std::alloc::Global;
 use tb_plan::{Plan, PlanFault, make_plan};
 use tb_text::{Diag, List, NoMemory, Path, Status, Texts};
@@ -34,13 +34,14 @@ fn prepare_plan(
     ensures none { IfOk result (λ found. IsNone found → NotServed texts.now roots.now) }
 {
     let projects = plan.projects.as_slice();
-    let Some(scripts) = scripts_of(alloc, texts, projects)? else {
+    let Some(Built { scripts, diags }) = build(alloc, texts, projects)? else {
         return Ok(None);
     };
+    let diags = diags.as_slice();
     Ok(Some(Publication {
         scripts,
-        report: built_report(alloc, verbose, projects)?,
-        status: Status::Clean,
+        report: built_report(alloc, verbose, texts, projects, diags)?,
+        status: built_status(diags),
         settled: opening_alone(alloc)?,
         checked: inputs_in(projects),
         built: with_inputs(projects),

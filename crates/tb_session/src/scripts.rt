@@ -5,18 +5,18 @@ ghost use Rattle.tb_face.specs.Outputs.{info_text};
 ghost use Rattle.tb_outside.specs.declared.disks.DiskStep.TheVariants.{Write};
 ghost use Rattle.tb_text.specs.Bytes.{bytes_cmp};
 ghost use Rattle.tb_text.specs.Paths.{is_path};
-ghost use Rattle.tb_session.specs.Builds.{info_with};
+ghost use Rattle.tb_session.specs.Builds.{diag_of, info_with};
 ghost use Rattle.tb_session.specs.Scripts.{IsScript};
 ghost use Rattle.tb_session.specs.Sources.{Source};
-ghost use Rattle.tb_session.specs.Emitted.{emitted_of};
+ghost use Rattle.tb_session.specs.Emitted.{emitted_of, entry_diags, output_steps};
 
-use crate::sources::{Emitted, Writes};
+use crate::sources::{Emitted, Outputs, Writes};
 use std::alloc::Global;
 use tb_face::{Entry, Info, info_path};
 use tb_info::write_info;
 use tb_outside::DiskStep;
 use tb_plan::Project;
-use tb_text::{List, NoMemory, Path, PathFault};
+use tb_text::{Diag, Finding, List, NoMemory, Path, PathFault};
 
 fn info_with(alloc: Global, project: &Project, entries: List<Entry>) -> Result<Info, NoMemory>
     ensures { IfOk result (λ info. info ≡ info_with project.now entries) }
@@ -85,17 +85,56 @@ fn sort(writes: &mut Vec<Writes>)
     writes.sort_unstable_by(|a, b| a.stem.cmp(&b.stem));
 }
 
-fn push_writes(steps: &mut List<DiskStep>, writes: Vec<Writes>) -> Result<(), NoMemory>
-    ensures { OnOk result (steps.new ≡ steps.old ++ flat_map (λ own. own.js ∷ own.declaration ∷ []) writes.items) }
+fn push_outputs(steps: &mut List<DiskStep>, outputs: Option<Outputs>) -> Result<(), NoMemory>
+    ensures { OnOk result (steps.new ≡ steps.old ++ output_steps outputs) }
 {
-    for own in writes {
-        let Writes {
-            stem: _,
-            js,
-            declaration,
-        } = own;
+    if let Some(Outputs { js, declaration }) = outputs {
         steps.push(js)?;
         steps.push(declaration)?;
+    }
+    Ok(())
+}
+
+fn push_writes(steps: &mut List<DiskStep>, writes: Vec<Writes>) -> Result<(), NoMemory>
+    ensures { OnOk result (steps.new ≡ steps.old ++ flat_map (λ own. output_steps own.outputs) writes.items) }
+{
+    for own in writes {
+        let Writes { stem: _, outputs } = own;
+        push_outputs(steps, outputs)?;
+    }
+    Ok(())
+}
+
+fn push_finding(
+    diags: &mut List<Diag>,
+    number: u32,
+    path: &Path,
+    finding: &Finding,
+) -> Result<(), NoMemory>
+    ensures { OnOk result (diags.new ≡ diags.old ++ diag_of number path.now finding.now ∷ []) }
+{
+    diags.push(Diag {
+        project: number,
+        path: path.clone()?,
+        finding: finding.clone()?,
+    })
+}
+
+fn push_findings(diags: &mut List<Diag>, number: u32, entry: &Entry) -> Result<(), NoMemory>
+    ensures { OnOk result (diags.new ≡ diags.old ++ entry_diags number entry.now) }
+{
+    for finding in entry.findings.as_slice() {
+        push_finding(diags, number, &entry.path, finding)?;
+    }
+    Ok(())
+}
+
+/// Adds what was found in the project of this number, by what is recorded of its inputs.
+pub fn push_diags(diags: &mut List<Diag>, number: u32, emitted: &[Emitted]) -> Result<(), NoMemory>
+    ensures { OnOk result (diags.new ≡ diags.old ++ flat_map (λ each. entry_diags number each.entry) emitted.now) }
+{
+    for each in emitted {
+        push_findings(diags, number, &each.entry)?;
     }
     Ok(())
 }

@@ -1,15 +1,18 @@
-ghost use Rattle.std.specs.Prelude.{◌≡◌, [], ℕ, List, IfOk, IfSome, IsNone, IsTrue, Some, Contains, codes, map};
+ghost use Rattle.std.specs.Prelude.{◌≡◌, ◌∷◌, [], ℕ, true, List, IfOk, IfSome, IsNone, IsTrue, Option, Some, None, Contains, codes, map};
 ghost use Rattle.tb_text.specs.Paths.{is_path};
+ghost use Rattle.tb_text.specs.declared.findings.Finding.{Finding};
 ghost use Rattle.tb_face.specs.Digests.{sha};
 ghost use Rattle.tb_face.specs.Outputs.{output_text, stem_text};
-ghost use Rattle.tb_plain.specs.declared.trees.File.{File};
-ghost use Rattle.tb_plain.specs.Erase.{erase};
-ghost use Rattle.tb_plain.specs.Layout.{js_text};
-ghost use Rattle.tb_plain.specs.Surface.{surface, dts_text};
+ghost use Rattle.tb_plain.specs.declared.trees.File.{File as PlainFile};
+ghost use Rattle.tb_plain.specs.Form.{plain_of};
+ghost use Rattle.tb_plain.specs.Plain as plain;
+ghost use Rattle.tb_plain.specs.Written.{IsWrittenPlainly};
 ghost use Rattle.tb_outside.specs.declared.disks.DiskStep.TheVariants.{Write};
-ghost use Rattle.tb_parse_file.specs.Files.{ReadsPlain};
-ghost use Rattle.tb_session.specs.Sources.{Source, HasFile, IsSource, AreSources};
-ghost use Rattle.tb_session.specs.Emitted.{emitted_of};
+ghost use Rattle.tb_parse_file.specs.Files.{ReadsFile};
+ghost use Rattle.tb_session.specs.declared.sources.Made.TheVariants as made;
+ghost use Rattle.tb_session.specs.Builds.{js_of, declaration_of};
+ghost use Rattle.tb_session.specs.Sources.{Reading, ReadsAs, Source, HasFile, IsSource, AreSources};
+ghost use Rattle.tb_session.specs.Emitted.{content_of, emitted_of, emitted_with, made_of};
 ghost use Rattle.tb_session.specs.Placed.{HasOutputPaths, HaveOutputPaths};
 
 use std::alloc::Global;
@@ -18,23 +21,45 @@ use tb_emit_js::js;
 use tb_face::{DECLARATION, Entry, SCRIPT, output_path, signature, stem_text, version};
 use tb_outside::DiskStep;
 use tb_parse_file::{FileFault, read_file};
-use tb_plain::{File, is_plain};
-use tb_text::{Digest, List, Name, NoMemory, Path, PathFault, Text, Texts};
+use tb_plain::{is_plain, is_written_plainly, plain_of};
+use tb_text::{Digest, Finding, List, Name, NoMemory, Path, PathFault, Text, Texts};
+use tb_tree::File;
 
-/// The outputs of an input, ready to be written.
+/// The steps that write the outputs of an input.
 #[derive(Drop)]
-pub struct Writes {
-    /// The input's path relative to the root, without its `.ts`.
-    pub stem: Name,
+pub struct Outputs {
     pub js: DiskStep,
     pub declaration: DiskStep,
 }
 
-/// What is made of an input: what the info records of it, and its outputs.
+/// What an input writes.
+#[derive(Drop)]
+pub struct Writes {
+    /// The input's path relative to the root, without its `.ts`.
+    pub stem: Name,
+    /// None where the input has a fault: then what stands at its output paths stays.
+    pub outputs: Option<Outputs>,
+}
+
+/// What is made of an input: what the info records of it, and what it writes.
 #[derive(Drop)]
 pub struct Emitted {
     pub entry: Entry,
     pub writes: Writes,
+}
+
+/// What is made of a text that was read: the texts of its outputs, or its one fault.
+#[derive(Drop)]
+pub enum Made {
+    Outputs { js: Text, declaration: Text },
+    Fault(Finding),
+}
+
+/// What is left of a text that was read.
+#[derive(Drop)]
+pub struct Content {
+    pub version: Digest,
+    pub made: Made,
 }
 
 // The stem of an input: none where the path ends in `.d.ts`.
@@ -77,96 +102,174 @@ fn output_paths(alloc: Global, folder: &Path, stem: &Name) -> Result<OutputPaths
     })
 }
 
-// The file that a text reads as, where it is plain.
-fn read_plain(alloc: Global, text: &[u8]) -> Result<Option<File>, NoMemory>
-    ensures found { IfOk result (λ found. IfSome found (λ file. ReadsPlain text.now file)) }
-    ensures none { IfOk result (λ found. IsNone found → (file : File) → ReadsPlain text.now file → ⊥) }
+// The plain form of a file that a text reads as, where it is plain.
+fn form_of(alloc: Global, text: &[u8], file: &File) -> Result<Option<tb_plain::File>, NoMemory>
+    ensures form { IfOk result (λ found. IfSome found (λ form. plain_of file.now ≡ Some form)) }
+    ensures plain { IfOk result (λ found. IfSome found (λ form. plain.is_plain form ≡ true)) }
+    ensures written { IfOk result (λ found. IfSome found (λ form. IsWrittenPlainly text.now)) }
+    ensures none { IfOk result (λ found. IsNone found → (form : PlainFile) → plain_of file.now ≡ Some form → plain.is_plain form ≡ true → IsWrittenPlainly text.now → ⊥) }
 {
-    let file = match read_file(alloc, text) {
-        Ok(file) => file,
-        Err(FileFault::Syntax(_)) => return Ok(None),
-        Err(FileFault::NoMemory) => return Err(NoMemory),
+    let Some(form) = plain_of(alloc, file)? else {
+        return Ok(None);
     };
-    if is_plain(alloc, &file)? {
-        Ok(Some(file))
-    } else {
-        Ok(None)
+    if !is_plain(alloc, &form)? {
+        return Ok(None);
     }
+    if !is_written_plainly(alloc, text)? {
+        return Ok(None);
+    }
+    Ok(Some(form))
 }
 
-/// What is left of a file that was read: its digest, and the texts of its outputs.
-#[derive(Drop)]
-struct Content {
-    version: Digest,
-    js: Text,
-    declaration: Text,
-}
-
-fn content_of(alloc: Global, text: &[u8], file: &File) -> Result<Content, NoMemory>
-    ensures { IfOk result (λ content. content ≡ record { version = sha text.now; js = js_text (erase file.now); declaration = dts_text (surface file.now) }) }
+// The texts of the outputs of a file with this plain form.
+fn emit(alloc: Global, file: &File, form: &tb_plain::File) -> Result<Made, NoMemory>
+    ensures { IfOk result (λ own. own ≡ made.Outputs (js_of file.now) (declaration_of form.now)) }
 {
-    let surface = plain_surface(alloc, file)?;
-    Ok(Content {
-        version: version(text),
+    let surface = plain_surface(alloc, form)?;
+    Ok(Made::Outputs {
         js: js(alloc, file)?,
         declaration: dts(alloc, &surface)?,
     })
 }
 
-// The content of the file at a path, where it is plain.
+// What is made of a text that reads as this file, where it is plain.
+fn emit_plain(alloc: Global, text: &[u8], file: &File) -> Result<Option<Made>, NoMemory>
+    requires { ReadsFile text.now file.now }
+    ensures found { IfOk result (λ found. IfSome found (λ own. (reading : Reading) × ReadsAs text.now reading × (own ≡ made_of reading))) }
+    ensures none { IfOk result (λ found. IsNone found → (form : PlainFile) → plain_of file.now ≡ Some form → plain.is_plain form ≡ true → IsWrittenPlainly text.now → ⊥) }
+{
+    let Some(form) = form_of(alloc, text, file)? else {
+        return Ok(None);
+    };
+    Ok(Some(emit(alloc, file, &form)?))
+}
+
+// What is made of a text, where it is plain or has a fault.
+fn read(alloc: Global, text: &[u8]) -> Result<Option<Made>, NoMemory>
+    ensures found { IfOk result (λ found. IfSome found (λ own. (reading : Reading) × ReadsAs text.now reading × (own ≡ made_of reading))) }
+    ensures none { IfOk result (λ found. IsNone found → (reading : Reading) → ReadsAs text.now reading → ⊥) }
+{
+    match read_file(alloc, text) {
+        Ok(file) => emit_plain(alloc, text, &file),
+        Err(FileFault::Syntax(finding)) => Ok(Some(Made::Fault(finding))),
+        Err(FileFault::NoMemory) => Err(NoMemory),
+    }
+}
+
+fn entry(
+    alloc: Global,
+    path: Path,
+    version: Digest,
+    signature: Option<Digest>,
+    findings: List<Finding>,
+) -> Entry
+    ensures { result ≡ record { path = path; version = version; signature = signature; edges = []; reach = []; findings = findings } }
+{
+    Entry {
+        path,
+        version,
+        signature,
+        edges: List::new(alloc),
+        reach: List::new(alloc),
+        findings,
+    }
+}
+
+// What is made of an input whose text has outputs.
+fn with_outputs(
+    alloc: Global,
+    folder: &Path,
+    path: Path,
+    version: Digest,
+    stem: Name,
+    js: Text,
+    declaration: Text,
+) -> Result<Emitted, NoMemory>
+    requires { HasOutputPaths folder.now stem }
+    ensures { IfOk result (λ emitted. emitted ≡ record {
+      entry = record { path = path; version = version; signature = Some (sha declaration); edges = []; reach = []; findings = [] };
+      writes = record {
+        stem = stem;
+        outputs = Some (record {
+          js = Write (output_text folder.now stem (codes ".js")) js;
+          declaration = Write (output_text folder.now stem (codes ".d.ts")) declaration;
+        });
+      };
+    }) }
+{
+    let paths = output_paths(alloc, folder, &stem)?;
+    let signature = Some(signature(declaration.as_slice()));
+    Ok(Emitted {
+        entry: entry(alloc, path, version, signature, List::new(alloc)),
+        writes: Writes {
+            stem,
+            outputs: Some(Outputs {
+                js: DiskStep::Write(paths.js, js),
+                declaration: DiskStep::Write(paths.declaration, declaration),
+            }),
+        },
+    })
+}
+
+// What is made of an input whose text has a fault.
+fn with_fault(
+    alloc: Global,
+    path: Path,
+    version: Digest,
+    stem: Name,
+    finding: Finding,
+) -> Result<Emitted, NoMemory>
+    ensures { IfOk result (λ emitted. emitted ≡ record {
+      entry = record { path = path; version = version; signature = None; edges = []; reach = []; findings = finding ∷ [] };
+      writes = record { stem = stem; outputs = None };
+    }) }
+{
+    let mut findings = List::new(alloc);
+    findings.push(finding)?;
+    Ok(Emitted {
+        entry: entry(alloc, path, version, None, findings),
+        writes: Writes {
+            stem,
+            outputs: None,
+        },
+    })
+}
+
+// What is made of an input with this content.
+fn put_together(
+    alloc: Global,
+    folder: &Path,
+    path: Path,
+    stem: Name,
+    content: Content,
+) -> Result<Emitted, NoMemory>
+    requires { HasOutputPaths folder.now stem }
+    ensures { IfOk result (λ emitted. emitted ≡ emitted_with folder.now path stem content) }
+{
+    let Content { version, made } = content;
+    match made {
+        Made::Outputs { js, declaration } => {
+            with_outputs(alloc, folder, path, version, stem, js, declaration)
+        }
+        Made::Fault(finding) => with_fault(alloc, path, version, stem, finding),
+    }
+}
+
+// What is left of the file at a path, where it is plain or has a fault.
 fn content_at(alloc: Global, texts: &Texts, path: &Path) -> Result<Option<Content>, NoMemory>
-    ensures found { IfOk result (λ found. IfSome found (λ content. (text : List ℕ) × (file : File) × HasFile texts.now path.now text file
-        × (content ≡ record { version = sha text; js = js_text (erase file); declaration = dts_text (surface file) }))) }
-    ensures none { IfOk result (λ found. IsNone found → (text : List ℕ) (file : File) → HasFile texts.now path.now text file → ⊥) }
+    ensures found { IfOk result (λ found. IfSome found (λ content. (text : List ℕ) × (reading : Reading) × HasFile texts.now path.now text reading × (content ≡ content_of text reading))) }
+    ensures none { IfOk result (λ found. IsNone found → (text : List ℕ) (reading : Reading) → HasFile texts.now path.now text reading → ⊥) }
 {
     let Some(text) = texts.get(path) else {
         return Ok(None);
     };
-    let Some(file) = read_plain(alloc, text.as_slice())? else {
+    let Some(made) = read(alloc, text.as_slice())? else {
         return Ok(None);
     };
-    Ok(Some(content_of(alloc, text.as_slice(), &file)?))
-}
-
-fn entry(alloc: Global, path: Path, content: &Content) -> Entry
-    ensures { result ≡ record { path = path; version = content.now.version; signature = Some (sha content.now.declaration); edges = []; reach = []; findings = [] } }
-{
-    Entry {
-        path,
-        version: content.version,
-        signature: Some(signature(content.declaration.as_slice())),
-        edges: List::new(alloc),
-        reach: List::new(alloc),
-        findings: List::new(alloc),
-    }
-}
-
-fn put_together(
-    alloc: Global,
-    path: Path,
-    stem: Name,
-    paths: OutputPaths,
-    content: Content,
-) -> Emitted
-    ensures { result ≡ record {
-      entry = record { path = path; version = content.version; signature = Some (sha content.declaration); edges = []; reach = []; findings = [] };
-      writes = record { stem = stem; js = Write paths.js content.js; declaration = Write paths.declaration content.declaration };
-    } }
-{
-    let entry = entry(alloc, path, &content);
-    let Content {
-        version: _,
-        js,
-        declaration,
-    } = content;
-    Emitted {
-        entry,
-        writes: Writes {
-            stem,
-            js: DiskStep::Write(paths.js, js),
-            declaration: DiskStep::Write(paths.declaration, declaration),
-        },
-    }
+    Ok(Some(Content {
+        version: version(text.as_slice()),
+        made,
+    }))
 }
 
 // What is made of the input at a path, where it is a source.
@@ -187,8 +290,9 @@ fn emit_input(
     let Some(content) = content_at(alloc, texts, path)? else {
         return Ok(None);
     };
-    let paths = output_paths(alloc, folder, &stem)?;
-    Ok(Some(put_together(alloc, path.clone()?, stem, paths, content)))
+    let path = path.clone()?;
+    let emitted = put_together(alloc, folder, path, stem, content)?;
+    Ok(Some(emitted))
 }
 
 /// What is made of the inputs at these paths, in an output folder, where all are sources.

@@ -146,7 +146,7 @@ fn later_change(case: u8) -> (&'static str, &'static [u8], u8) {
         0 => ("core/a.ts", b"export const a: number = 2;\n", 0),
         1 => ("app/tsconfig.json", b"{}", 1),
         2 => ("app/tsconfig.json", b"{", 3),
-        _ => ("app/m.ts", b"not plain", 75),
+        _ => ("app/m.ts", b"export {};\n", 75),
     }
 }
 

@@ -16,6 +16,8 @@ mod runs;
 #[cfg(test)]
 mod settings;
 #[cfg(test)]
+mod syntax;
+#[cfg(test)]
 mod texts;
 #[cfg(test)]
 mod unbuilt;

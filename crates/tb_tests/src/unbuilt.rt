@@ -1,6 +1,6 @@
 //! Runs over texts that are not built yet.
 
-use crate::workspaces::{THREE, add, disk, go, is_untouched, workspace};
+use crate::workspaces::{THREE, disk, go, is_untouched, workspace};
 use std::alloc::Global;
 use std::test::Fail;
 use tb_text::{Status, Texts, Which};
@@ -9,9 +9,9 @@ use tb_text::{Status, Texts, Which};
 fn change(case: u8) -> &'static str {
     match case {
         0 => "@app/m.ts\nimport \"../core/a\";\n",
-        1 => "@app/m.ts\nexport const a: number = 01;\n",
-        2 => "@app/m.ts\nexport const a: number = 1",
-        3 => "@app/m.ts\nexport const let: number = 1;\n",
+        1 => "@app/m.ts\nexport const a: number = -1;\n",
+        2 => "@app/m.ts\nexport function f(): number { return 1; }\n",
+        3 => "@app/m.ts\nexport let a: number = 1;\n",
         4 => "@app/m.ts\nexport const a: number = \"x\";\n",
         5 => "@app/m.ts\nexport const a = 1;\n",
         6 => "@app/m.ts\nconst a: number = 1;\n",
@@ -23,16 +23,24 @@ fn change(case: u8) -> &'static str {
             "@app/m.d.ts\n@app/tsconfig.json\n{\"compilerOptions\":{\"outDir\":\"dist\"},\"files\":[\"m.d.ts\"]}\n"
         }
         12 => "@core/a.ts\nimport \"./a-b\";\n",
-        _ => "@core/sub/c.d.ts\nexport {};\n",
+        13 => "@core/sub/c.d.ts\nexport {};\n",
+        14 => "@app/m.ts\nexport const a: number = 1, b: number = 2;\n",
+        15 => "@app/m.ts\nexport interface A { x?: number; }\n",
+        16 => "@app/m.ts\nexport interface A { readonly x: number; }\n",
+        17 => "@app/m.ts\nexport interface A { \"x\": number; }\n",
+        18 => "@app/m.ts\nexport interface A extends B { x: number; }\n",
+        19 => "@app/m.ts\nexport type A = number | string;\n",
+        // Trees of plain files, which are not written so.
+        20 => "@app/m.ts\nexport const a: (number) = 1;\n",
+        21 => "@app/m.ts\nexport type A = | number;\n",
+        22 => "@app/m.ts\nexport interface A { x: number, y: string; }\n",
+        23 => "@app/m.ts\nexport interface A { x: number; y: string }\n",
+        // Beside a file without a reading.
+        _ => "@core/a.ts\nconst;\n@app/m.ts\nexport {};\n",
     }
 }
 
 fn changed(alloc: Global, case: u8) -> Result<Texts, Fail> {
-    if case == 14 {
-        let mut texts = workspace(alloc, THREE)?;
-        add(alloc, &mut texts, "app/m.ts", b"\xFF")?;
-        return Ok(texts);
-    }
     let files = format!(in alloc; "{THREE}{}", change(case))?;
     workspace(alloc, files.as_str())
 }
@@ -40,7 +48,7 @@ fn changed(alloc: Global, case: u8) -> Result<Texts, Fail> {
 #[test]
 fn what_is_not_built_yet_touches_nothing(rt: HostRuntime) -> Result<(), Fail> {
     let alloc = rt.alloc();
-    for case in 0..15u8 {
+    for case in 0..25u8 {
         // The first call of the disk and of the sink would fail.
         let disk = disk(alloc, Some(0))?;
         let run = go(alloc, "app", changed(alloc, case)?, disk, None, Some(0))?;

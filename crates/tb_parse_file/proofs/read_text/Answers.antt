@@ -1,5 +1,5 @@
 use Rattle.std.proofs.Common.{sym, subst}
-use Rattle.tb_parse_file.specs.declared.reader.Reader.{Reader}
+use Rattle.tb_parse_type.specs.declared.reader.Reader.{Reader}
 use Rattle.tb_parse_file.specs.Reading.{ReadsAll}
 use Rattle.tb_parse_file.specs.Files.{HasFault}
 use Rattle.tb_parse_file.proofs.Sources.{fault_at}
