@@ -32,6 +32,11 @@ def source(number):
     return "\n".join(lines) + "\n"
 
 
+def constants(number):
+    """Two plain items, whose names have this number."""
+    return f'export const value{number}: number = {number};\nexport const name{number}: string = "name {number}";\n'
+
+
 def make(folder, files):
     with open(os.path.join(folder, "tsconfig.json"), "w", encoding="utf-8") as out:
         out.write(CONFIG)

@@ -1,13 +1,15 @@
 #!/usr/bin/env python3
 """Builds made-up workspaces of plain files with tsb, and with `tsc -b` where it is installed, and prints a table.
 
-    bench/workspace.py [PROJECTS [FILES]]
+    bench/workspace.py [PROJECTS [FILES [LARGE]]]
 
-PROJECTS is 500 and FILES is 2,000 where they are not given. There are two cases:
+PROJECTS is 500, FILES is 2,000 and LARGE is 8 where they are not given. There are three cases:
 
 - a workspace of PROJECTS projects of four files each. Project i references project (i-1)/2, rounded down, so that the
   references make a tree, and a solution at the root references all of them;
-- one project of FILES files.
+- one project of FILES files;
+- one project of LARGE files of almost 4 MiB, which is the most that a file may have; here the bytes that are read and
+  written are counted too, by the second of the whole run.
 
 Each tool gets a copy of its own in a temporary folder, and runs twice: once from nothing, and once more where nothing has
 changed. The words are `-b --verbose` in the first case and `-b` in the second. The figures are of the whole process: wall
@@ -34,6 +36,9 @@ PER_PROJECT = 4
 # tsc gets these options so that it writes the same JavaScript as tsb, and looks for no types that are installed. None of
 # them has an effect on tsb.
 OPTIONS = '"composite":true,"outDir":"dist","target":"es2022","module":"es2022","strict":true,"skipLibCheck":true,"types":[]'
+
+# An input has this many bytes at most.
+MOST_BYTES = 4 * 1024 * 1024
 
 Case = namedtuple("Case", "title make size words projects files")
 
@@ -63,6 +68,32 @@ def make_project(folder, files, tool):
     plain.make(folder, files)
     if tool == "tsc":
         put(folder, "tsconfig.json", f'{{"compilerOptions":{{{OPTIONS}}}}}\n')
+
+
+def make_large(folder, files, tool):
+    make_project(folder, 0, tool)
+    for number in range(files):
+        items, size, first = [], 0, number * 1_000_000
+        while True:
+            item = plain.constants(first + len(items))
+            if size + len(item) > MOST_BYTES:
+                break
+            items.append(item)
+            size += len(item)
+        put(folder, f"large{number}.ts", "".join(items))
+
+
+def count_bytes(folder):
+    """How many bytes there are in inputs and in outputs."""
+    read = written = 0
+    for place, _, names in os.walk(folder):
+        for name in names:
+            size = os.path.getsize(os.path.join(place, name))
+            if "dist" in place.split(os.sep):
+                written += size
+            elif name.endswith(".ts"):
+                read += size
+    return read, written
 
 
 def count_outputs(folder):
@@ -112,6 +143,9 @@ def measure(tool, program, case):
             found = count_outputs(folder)
             if found != 2 * case.files:
                 print(f"  {tool:4} {which:8} left {found} outputs, not {2 * case.files}")
+            if case.make is make_large:
+                read, written = count_bytes(folder)
+                print(f"       {read / 1e6:.1f} MB read, {written / 1e6:.1f} MB written: {read / taken / 1e6:.1f} and {written / taken / 1e6:.1f} MB/s")
 
 
 def measure_all(case, tools):
@@ -125,6 +159,7 @@ def measure_all(case, tools):
 def main():
     projects = int(sys.argv[1]) if len(sys.argv) > 1 else 500
     files = int(sys.argv[2]) if len(sys.argv) > 2 else 2000
+    large = int(sys.argv[3]) if len(sys.argv) > 3 else 8
     # This word is none of tsb's, so that the call builds the program and does nothing more.
     subprocess.run([os.path.join(plain.TOP, "tsb"), "--nope"], stderr=subprocess.DEVNULL, check=False)
     tools = [("tsb", PROGRAM)]
@@ -151,6 +186,14 @@ def main():
             words=["-b"],
             projects=1,
             files=files,
+        ),
+        Case(
+            title=f"one project of {large} files of almost 4 MiB",
+            make=make_large,
+            size=large,
+            words=["-b"],
+            projects=1,
+            files=large,
         ),
     ]
     for case in cases:
