@@ -1,5 +1,16 @@
 pub mod Baring
+pub mod BaringTypes
 pub mod Erasing
+pub mod Inducing
+pub mod Keeping
+pub mod Lacking
 pub mod Laying
+pub mod Members
+pub mod Naming
+pub mod Quoting
+pub mod Requoted
+pub mod Showing
 pub mod Steadying
+pub mod Swapping
+pub mod Values
 pub mod Written

@@ -1,5 +1,12 @@
+pub mod Annotations
+pub mod Dts
 pub mod Erase
 pub mod Js
+pub mod Kept
 pub mod Laws
+pub mod Parts
 pub mod Pieces
+pub mod Quoted
+pub mod Shown
 pub mod Steady
+pub mod Surface

@@ -2,8 +2,16 @@
 use Rattle.std.proofs.Common.{[], None, sym, ◌∙◌}
 use Rattle.tb_layout.proofs.Baring as baring
 use Rattle.tb_layout.proofs.Erasing as erasing
+use Rattle.tb_layout.proofs.Keeping as keeping
+use Rattle.tb_layout.proofs.Lacking as lacking
 use Rattle.tb_layout.proofs.Laying as laying
+use Rattle.tb_layout.proofs.Naming as naming
+use Rattle.tb_layout.proofs.Quoting as quoting
+use Rattle.tb_layout.proofs.Requoted as requoted
+use Rattle.tb_layout.proofs.Showing as showing
 use Rattle.tb_layout.proofs.Steadying as steadying
+use Rattle.tb_layout.proofs.Swapping as swapping
+use Rattle.tb_layout.proofs.Values as values
 use Rattle.tb_layout.proofs.Written as written
 use Rattle.tb_layout.proofs.types_leave_nothing.Goals as goal
 
@@ -11,8 +19,16 @@ pub returns-clause-casts : goal.returns-clause-casts
 returns-clause-casts c =
     let of_bare = baring.this_expr in
     let of_erased = erasing.this_expr in
+    let of_kept = keeping.rounds_find_all in
+    let of_lacking = lacking.this_expr in
     let of_laid = laying.this_expr in
+    let of_named = naming.keyword_type in
+    let of_quoted = quoting.keyword_type in
+    let of_requoted = requoted.surface_quoted in
+    let of_shown = showing.keyword_type in
     let of_steady = steadying.this_expr in
+    let of_swapped = swapping.surface_swapped in
+    let of_values = values.quoted_twice in
     written.as_expr
 
 pub returns-clause-arguments : goal.returns-clause-arguments
