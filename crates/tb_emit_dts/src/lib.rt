@@ -1,11 +1,11 @@
-//! Surfaces, and the layout of declaration files.
+//! The layout of declaration files.
 #![tactic(auto)]
 
+mod bodies;
+mod declarations;
+mod headings;
 mod layout;
-mod surfaces;
+mod names;
+mod texts;
 
 pub use layout::dts;
-pub use surfaces::plain_surface;
-
-#[cfg(test)]
-mod tests;

@@ -1,2 +1,1 @@
 mod Differ
-mod ForAll

@@ -1,5 +1,2 @@
-pub mod Form
-pub mod Layout
 pub mod Plain
-pub mod Surface
 pub mod Written

@@ -1,0 +1,10 @@
+use Rattle.std.proofs.Common.{◌≡◌, ◌++◌, map, flat_map, drop, string_bytes}
+use Rattle.tb_layout.specs.Pieces.{text_of}
+use Rattle.tb_layout.specs.Dts.{member_line}
+use Rattle.tb_layout.specs.Shown.{shown_member}
+use Rattle.tb_emit_dts.proofs.bodies.write_member_lines.Given as goal
+
+abbrev pub invariant-loop-member : goal.invariant-loop-member
+invariant-loop-member l =
+    string_bytes l.out ++ text_of (flat_map member_line (map shown_member (drop l.member-index l.all)))
+    ≡ string_bytes l.initial.out ++ text_of (flat_map member_line (map shown_member l.all))

@@ -1,0 +1,4 @@
+pub mod Forms
+pub mod Joins
+pub mod Looseness
+pub mod Values

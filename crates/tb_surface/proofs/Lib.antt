@@ -1,0 +1,9 @@
+pub mod Found
+pub mod Joins
+pub mod Keeping
+pub mod Leading
+pub mod Members
+pub mod Named
+pub mod Reaching
+pub mod Searching
+pub mod Told

@@ -1,0 +1,3 @@
+pub mod Lacks
+pub mod Literals
+pub mod Names
