@@ -1,1 +1,2 @@
+pub mod DtsLaw
 pub mod Law

@@ -1,6 +1,7 @@
-//! What the JavaScript of a file is when it is read again.
+//! What the JavaScript of a file, and the declarations of a surface, are when they are read again.
 #![tactic(auto)]
 
+ghost use Rattle.tb_emit_law.specs.DtsLaw.{DtsDerives, DtsReads, DtsReadsBack};
 ghost use Rattle.tb_emit_law.specs.Law.{JsDerives, JsReadsBack};
 
 /// The tokens of the JavaScript of a file that was read derive the erased file, item by item; and reading it gives the
@@ -9,4 +10,13 @@ ghost use Rattle.tb_emit_law.specs.Law.{JsDerives, JsReadsBack};
 pub fn js_reads_back()
     ensures derives { JsDerives }
     ensures reads { JsReadsBack }
+{}
+
+/// The tokens of the declaration file of a surface derive that surface, item by item; that text reads as the surface; and
+/// reading it answers the surface, or want of memory; all but for offsets. A surface is what a file that reads has, or
+/// what a declaration file reads as.
+pub fn dts_reads_back()
+    ensures derives { DtsDerives }
+    ensures whole { DtsReads }
+    ensures reads { DtsReadsBack }
 {}

@@ -2,6 +2,15 @@ pub mod Aliases
 pub mod Bases
 pub mod Behind
 pub mod Chosen
+pub mod DeclChosen
+pub mod DeclKept
+pub mod DeclKinds
+pub mod DeclLoops
+pub mod DeclMembers
+pub mod DeclNames
+pub mod DeclRows
+pub mod DeclShapes
+pub mod DeclSources
 pub mod Declared
 pub mod FirstWords
 pub mod Headed
@@ -18,6 +27,7 @@ pub mod MemberRows
 pub mod NameFronts
 pub mod NamedLists
 pub mod NoSemicolon
+pub mod OneDecl
 pub mod OneFile
 pub mod PartReadings
 pub mod Parting

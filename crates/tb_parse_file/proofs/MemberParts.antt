@@ -244,7 +244,7 @@ plain_parts n (g.class_method {is_static = b} kind s at o p {xs = xs} {ys = ys} 
   refl,
 )
 
-no_modifier : {kind : Word} {p : List Sym} {b : Bool} → IsWorded kind p b → b ≡ false → p ≡ []
+pub no_modifier : {kind : Word} {p : List Sym} {b : Bool} → IsWorded kind p b → b ≡ false → p ≡ []
 no_modifier unworded e = refl
 no_modifier (worded s o) e = absurd (cc)
 
@@ -252,10 +252,10 @@ plain_as : {n : ℕ} {a u : List Sym} {r v : Deep ClassMember} → a ≡ u → r
 plain_as {n = n} e i h = under_both (λ (a : List Sym) (r : Deep ClassMember). PlainUpto n a r) e i h
 
 -- the head of what was read
-head_shape : {p : List Sym} {h : Head} (d : HeadRule p h) → p ≡ d.0 ++ (d.4.0 ++ (word h.1.1.0 h.1.1.1 h.1.1.2 ∷ []))
+pub head_shape : {p : List Sym} {h : Head} (d : HeadRule p h) → p ≡ d.0 ++ (d.4.0 ++ (word h.1.1.0 h.1.1.1 h.1.1.2 ∷ []))
 head_shape d = d.2 ∙ ap (λ v. d.0 ++ v) (d.4.2 ∙ ap (λ v. d.4.0 ++ v) d.4.4)
 
-head_before : {p : List Sym} {h : Head} (d : HeadRule p h) (vs : List Sym) → p ++ vs ≡ d.0 ++ (d.4.0 ++ (word h.1.1.0 h.1.1.1 h.1.1.2 ∷ vs))
+pub head_before : {p : List Sym} {h : Head} (d : HeadRule p h) (vs : List Sym) → p ++ vs ≡ d.0 ++ (d.4.0 ++ (word h.1.1.0 h.1.1.1 h.1.1.2 ∷ vs))
 head_before {h = h} d vs =
     let z = word h.1.1.0 h.1.1.1 h.1.1.2 in
     ap (λ v. v ++ vs) (head_shape d) ∙ append_assoc d.0 (d.4.0 ++ (z ∷ [])) vs ∙ ap (λ v. d.0 ++ v) (append_assoc d.4.0 (z ∷ []) vs)

@@ -16,7 +16,7 @@ use Rattle.tb_parse_file.proofs.MemberParts.{plain_begins, plain_no_constructor,
 
 -- ---- a member, which may be a constructor only where none was before
 
-not_both : (before : Bool) → (before && false) ≡ false
+pub not_both : (before : Bool) → (before && false) ≡ false
 not_both false = refl
 not_both true = refl
 
@@ -83,7 +83,7 @@ starts_both : (C D : Sym → Type 0) → ((s : Sym) → C s → D s → ⊥) →
 starts_both C D h [] s t = s
 starts_both C D h (z ∷ zs) s t = h z s t
 
-starts_as : (C D : Sym → Type 0) → ((s : Sym) → C s → D s) → (zs : List Sym) → Starts C zs → Starts D zs
+pub starts_as : (C D : Sym → Type 0) → ((s : Sym) → C s → D s) → (zs : List Sym) → Starts C zs → Starts D zs
 starts_as C D h [] s = s
 starts_as C D h (z ∷ zs) s = h z s
 
@@ -92,7 +92,7 @@ head_no_bracket (Mark m.OpenBracket o) i h = let e : false ≡ true = i in cc
 head_no_bracket (Mark _ o) i h = let e : false ≡ true = h in cc
 head_no_bracket (Lex k s o) i h = let e : false ≡ true = h in cc
 
-head_in_members : (s : Sym) → InHead s → InMembers s
+pub head_in_members : (s : Sym) → InHead s → InMembers s
 head_in_members (Mark _ o) h = let e : false ≡ true = h in cc
 head_in_members (Lex k s o) h = refl
 
@@ -101,28 +101,28 @@ body_in_members (Mark m.CloseBrace o) h = let e : false ≡ true = h in cc
 body_in_members (Mark _ o) h = refl
 body_in_members (Lex k s o) h = refl
 
-nonempty : (a : List Sym) → Starts InHead (a ++ []) → 1 ≤ length a
+pub nonempty : (a : List Sym) → Starts InHead (a ++ []) → 1 ≤ length a
 nonempty [] h = absurd h
 nonempty (s ∷ a) h = omega arith
 
 -- ---- members that follow one another: of those before, this one and those behind at most one is a constructor
 
-before_here : (before here later : Bool) → (before && (here || later)) ≡ false → (before && here) ≡ false
+pub before_here : (before here later : Bool) → (before && (here || later)) ≡ false → (before && here) ≡ false
 before_here false here later h = refl
 before_here true false later h = refl
 before_here true true later h = h
 
-before_later : (before here later : Bool) → (before && (here || later)) ≡ false → (here && later) ≡ false → ((before || here) && later) ≡ false
+pub before_later : (before here later : Bool) → (before && (here || later)) ≡ false → (here && later) ≡ false → ((before || here) && later) ≡ false
 before_later false here later h k = k
 before_later true false later h k = h
 before_later true true later h k = let p : true ≡ false = h in cc
 
-here_later : (before here later : Bool) → ((before || here) && later) ≡ false → (here && later) ≡ false
+pub here_later : (before here later : Bool) → ((before || here) && later) ≡ false → (here && later) ≡ false
 here_later false here later h = h
 here_later true false later h = refl
 here_later true true later h = h
 
-before_both : (before here later : Bool) → (before && here) ≡ false → ((before || here) && later) ≡ false → (before && (here || later)) ≡ false
+pub before_both : (before here later : Bool) → (before && here) ≡ false → ((before || here) && later) ≡ false → (before && (here || later)) ≡ false
 before_both false here later h k = refl
 before_both true false later h k = k
 before_both true true later h k = h

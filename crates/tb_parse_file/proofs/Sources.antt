@@ -9,7 +9,7 @@ use Rattle.tb_tree.proofs.Ends.{ap_both}
 use Rattle.tb_parse_type.specs.Symbols.{symbols}
 use Rattle.tb_parse_file.specs.Files.{HasSymbols, HasFault, no_item, finding}
 
-has_symbols : (text plain : List ℕ) (tokens : List Token) → IsUtf8 text → plain ≡ without_mark text → Scans plain 0 [] tokens → HasSymbols text (symbols (without_mark text) tokens)
+pub has_symbols : (text plain : List ℕ) (tokens : List Token) → IsUtf8 text → plain ≡ without_mark text → Scans plain 0 [] tokens → HasSymbols text (symbols (without_mark text) tokens)
 has_symbols text plain tokens u p s = record { utf8 = u; tokens = tokens; scanned = subst (λ v. Scans v 0 [] tokens) p s; same = refl }
 
 pub fault_at : (text plain : List ℕ) (tokens seen : List Token) (at : ℕ) → IsUtf8 text → plain ≡ without_mark text → seen ≡ tokens → Scans plain 0 [] tokens → StopsAt (symbols plain (drop 0 seen)) at

@@ -1,6 +1,9 @@
 pub mod Choice
 pub mod Classes
+pub mod DeclReading
+pub mod DeclRules
 pub mod Declarations
+pub mod Decls
 pub mod Files
 pub mod Laws
 pub mod Lists

@@ -53,7 +53,7 @@ fn modifier_at(reader: &Reader<'_>, at: usize, word: Word) -> (bool, usize)
 }
 
 /// `static? readonly? Word`.
-fn head_at(reader: &Reader<'_>, at: usize) -> Option<MemberHead>
+pub(crate) fn head_at(reader: &Reader<'_>, at: usize) -> Option<MemberHead>
     requires { at ≤ length reader.now.tokens.now }
     ensures { spec.ReadsHead reader.now at result }
 {
@@ -72,7 +72,7 @@ fn head_at(reader: &Reader<'_>, at: usize) -> Option<MemberHead>
 }
 
 /// Whether a word may name a field or a method.
-fn is_member_name(word: Word) -> bool
+pub(crate) fn is_member_name(word: Word) -> bool
     ensures { result ≡ items.is_member_name word }
 {
     match word {
@@ -238,7 +238,7 @@ fn class_member_at(
 }
 
 /// One of both.
-fn either(a: bool, b: bool) -> bool
+pub(crate) fn either(a: bool, b: bool) -> bool
     ensures { result ≡ (a || b) }
 {
     a || b

@@ -1,4 +1,4 @@
-//! Reads source files: the tokens of a text as items, each the longest front of the rest that is one.
+//! Reads source files and declaration files: the tokens of a text as items, each the longest front of the rest that is one.
 #![tactic(auto)]
 
 ghost use Rattle.std.specs.Prelude.{◌≡◌};
@@ -7,14 +7,19 @@ ghost use Rattle.tb_parse_file.specs.Files as spec;
 
 mod choice;
 mod classes;
+mod decl_choice;
+mod decl_items;
+mod decl_members;
 mod declarations;
+mod decls;
 mod fronts;
 mod imports;
 mod items;
 mod laws;
-#[cfg(test)]
-mod tests;
+mod quoting;
+mod signatures;
 
+pub use decls::read_decl;
 use items::{Reading, items};
 pub use laws::readings_are_determined;
 use std::alloc::Global;
