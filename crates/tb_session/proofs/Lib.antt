@@ -11,6 +11,5 @@ mod Readying
 mod Reporting
 mod Settling
 mod Small
-mod Unread
 mod Writing
 mod Written

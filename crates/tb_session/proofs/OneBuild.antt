@@ -1,17 +1,13 @@
 -- Texts have one clean build from these roots.
-use Rattle.std.proofs.Common.{◌≡◌, ℕ, true, List, [], ◌∷◌, refl, sym, ap, ◌∙◌, subst}
-use Rattle.std.specs.Prelude.{Option, Some, None}
-use Rattle.tb_tree.specs.declared.items.File.{File}
-use Rattle.tb_plain.specs.Form.{plain_of}
-use Rattle.tb_plain.specs.Plain.{is_plain}
-use Rattle.tb_plain.specs.Written.{IsWrittenPlainly}
-use Rattle.tb_plain.specs.declared.trees.File.{File as PlainFile}
+use Rattle.std.proofs.Common.{◌≡◌, ℕ, List, [], ◌∷◌, refl, sym, ap, ◌∙◌, subst}
+use Rattle.std.specs.Prelude.{Option, Some, None, Err}
 use Rattle.std.specs.List.{AllByRecursion}
+use Rattle.std.proofs.lemmas.Bool.{true≢false}
 use Rattle.std.proofs.lemmas.List.Elements.{recursion_from_All}
 use Rattle.tb_text.specs.declared.findings.Diag.{Diag}
-use Rattle.tb_text.specs.declared.findings.Finding.{Finding}
 use Rattle.tb_text.specs.declared.statuses.Status.{Status}
-use Rattle.tb_parse_file.specs.Files.{ReadsFile, HasFault}
+use Rattle.tb_parse_file.specs.declared.FileFault.TheVariants as fault
+use Rattle.tb_parse_file.proofs.OneDecl.{fault_answer}
 use Rattle.tb_parse_file.proofs.OneFile.{one_file, one_fault, reads_or_faults}
 use Rattle.tb_plan.specs.Plans.{Planned, Sound, Faulted}
 use Rattle.tb_plan.specs.declared.plans.Plan.{Plan}
@@ -26,48 +22,33 @@ some_or d (Some x) = x
 
 -- ---- a text has one reading
 
-form_or : PlainFile → Option PlainFile → PlainFile
-form_or d None = d
-form_or d (Some form) = form
+one_stem : (o : Option (List ℕ)) (stem other : List ℕ) → o ≡ Some stem → o ≡ Some other → stem ≡ other
+unfolding some_or
+one_stem o stem other p q = ap (some_or []) (sym p ∙ q)
 
-one_form : (file other : File) (form another : PlainFile) → file ≡ other → plain_of file ≡ Some form → plain_of other ≡ Some another → form ≡ another
-unfolding form_or
-one_form file other form another same p q = ap (form_or form) (sym p ∙ ap plain_of same ∙ q)
-
-one_reading : (text : List ℕ) (a b : Reading) → ReadsAs text a → ReadsAs text b → a ≡ b
-one_reading text (Plain file form) (Plain other another) p q =
-    let same : file ≡ other = one_file p.reads q.reads in
-    λ i. Plain (same i) (one_form file other form another same p.formed q.formed i)
-one_reading text (Plain file form) (Faulty finding) p q = absurd (reads_or_faults p.reads q)
-one_reading text (Faulty finding) (Plain file form) p q = absurd (reads_or_faults q.reads p)
-one_reading text (Faulty finding) (Faulty other) p q = ap Faulty (one_fault p q)
-
--- a text that reads as this file, which is not plain, has no reading
-pub no_reading : (text : List ℕ) (file : File) (reading : Reading) → ReadsAs text reading → ((other : File) → ReadsFile text other → file ≡ other) → ((finding : Finding) → HasFault text finding → ⊥)
-    → ((form : PlainFile) → plain_of file ≡ Some form → is_plain form ≡ true → IsWrittenPlainly text → ⊥) → ⊥
-no_reading text file (Plain other form) is files faults none = none form (ap plain_of (files other is.reads) ∙ is.formed) is.plain is.written
-no_reading text file (Faulty finding) is files faults none = faults finding is
-
--- a file has one form
-pub same_form : (file : File) (form another : PlainFile) → plain_of file ≡ Some form → plain_of file ≡ Some another → form ≡ another
-same_form file form another p q = one_form file file form another refl p q
+one_reading : {root path text : List ℕ} {a b : Reading} → ReadsAs root path text a → ReadsAs root path text b → a ≡ b
+one_reading (ReadsAs.plain d n r p) (ReadsAs.plain e m q o) = λ i. Plain (one_stem _ _ _ n m i) (one_file r q i)
+one_reading (ReadsAs.plain d n r p) (ReadsAs.faulty e h) = absurd (reads_or_faults r h)
+one_reading (ReadsAs.plain d n r p) (ReadsAs.faulty_declaration e h) = absurd (true≢false (sym e ∙ d))
+one_reading (ReadsAs.faulty d g) (ReadsAs.plain e m q o) = absurd (reads_or_faults q g)
+one_reading (ReadsAs.faulty d g) (ReadsAs.faulty e h) = ap Faulty (one_fault g h)
+one_reading (ReadsAs.faulty d g) (ReadsAs.faulty_declaration e h) = absurd (true≢false (sym e ∙ d))
+one_reading (ReadsAs.faulty_declaration d g) (ReadsAs.plain e m q o) = absurd (true≢false (sym d ∙ e))
+one_reading (ReadsAs.faulty_declaration d g) (ReadsAs.faulty e h) = absurd (true≢false (sym d ∙ e))
+one_reading (ReadsAs.faulty_declaration {finding = found} d g) (ReadsAs.faulty_declaration e h) = ap Faulty (fault_answer (Err (fault.Syntax found)) g h)
 
 -- ---- an input is one source
 
 module _ (texts : Tree) (root path : List ℕ) (a b : Source) (p : IsSource texts root path a) (q : IsSource texts root path b) where
-  stems : a.stem ≡ b.stem
-  unfolding some_or
-  stems = ap (some_or []) (sym p.stem ∙ q.stem)
-
   texts_same : a.text ≡ b.text
   unfolding some_or
   texts_same = ap (some_or []) (sym p.has_file.found ∙ q.has_file.found)
 
   readings : a.reading ≡ b.reading
-  readings = one_reading a.text a.reading b.reading p.has_file.reads (subst (λ (t : List ℕ). ReadsAs t b.reading) (sym texts_same) q.has_file.reads)
+  readings = one_reading p.has_file.reads (subst (λ (t : List ℕ). ReadsAs root path t b.reading) (sym texts_same) q.has_file.reads)
 
   pub one_source : a ≡ b
-  one_source = λ i. record { path = (p.at ∙ sym q.at) i; stem = stems i; text = texts_same i; reading = readings i }
+  one_source = λ i. record { path = (p.at ∙ sym q.at) i; text = texts_same i; reading = readings i }
 
 pub one_list : (texts : Tree) (root : List ℕ) (paths : List (List ℕ)) (these those : List Source) → AreSources texts root paths these → AreSources texts root paths those → these ≡ those
 one_list texts root [] [] [] p q = refl

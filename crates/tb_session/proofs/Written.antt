@@ -16,13 +16,13 @@ use Rattle.tb_plan.specs.Laws.{PlanOk}
 use Rattle.tb_plan.specs.Plans.{plan_of, Sound}
 use Rattle.tb_plan.specs.declared.plans.Project.{Project}
 use Rattle.tb_session.specs.Blamed.{Blamed}
-use Rattle.tb_session.specs.Builds.{js_of, declaration_of, outputs_by, outputs_of, info_output, outputs_in, project_outputs}
-use Rattle.tb_face.specs.Outputs.{output_text}
+use Rattle.tb_session.specs.Builds.{Pair, pairs_by, pairs_of, pairs_in, js_output, declaration_output, outputs_of, info_output, outputs_in, project_outputs}
+use Rattle.tb_face.specs.Outputs.{stem_text}
 use Rattle.tb_session.specs.Generations.{Tree}
 use Rattle.tb_session.specs.Plans.{IsOutside}
 use Rattle.tb_session.specs.Publishes.{FailsAt, steps_of}
 use Rattle.tb_session.specs.Scripts.{write_of, IsScript, AreScripts}
-use Rattle.tb_session.specs.Sources.{Reading, Plain, Faulty, Source, Build, IsSource, AreSources, HasSources, IsBuild, projects_in}
+use Rattle.tb_session.specs.Sources.{Reading, Plain, Faulty, ReadsAs, Source, Build, IsSource, AreSources, HasSources, IsBuild, projects_in}
 use Rattle.tb_session.specs.declared.publishes.Script.{Script}
 use Rattle.tb_session.proofs.Members.{In, in_left, in_right, in_append, in_flat, flat_in, in_map, all_by, each_of, in_permuted, in_from, in_back}
 use Rattle.tb_session.proofs.OneBuild.{one_source}
@@ -90,49 +90,43 @@ all_at_paths texts root [] (s ∷ sources) are = absurd are
 all_at_paths texts root (p ∷ paths) [] are = absurd are
 all_at_paths texts root (p ∷ paths) (s ∷ sources) are = (subst (λ (q : List ℕ). IsSource texts root q s) (sym are.0.at) are.0, all_at_paths texts root paths sources are.1)
 
--- sources with one stem are one
-same_source : (texts : Tree) (root : List ℕ) (a b : Source) → IsAtPath texts root a → IsAtPath texts root b → a.stem ≡ b.stem → a ≡ b
-same_source texts root a b p q e =
-    let same : b.path ≡ a.path = one_path root b.path a.path a.stem (q.stem ∙ ap Some (sym e)) p.stem in
-    one_source texts root a.path a b p (subst (λ (path : List ℕ). IsSource texts root path b) same q)
+-- a pair of outputs has the stem of its source's path
+named_by : (root path text : List ℕ) (reading : Reading) (pair : Pair) → ReadsAs root path text reading → In (pairs_by reading) pair → stem_text root path ≡ Some pair.stem
+named_by root path text (Plain stem file) pair (ReadsAs.plain source named reads plain) has = elim has [
+  | inl e ↦ named ∙ ap (λ (x : Pair). Some x.stem) e
+  | inr none ↦ absurd none
+]
+named_by root path text (Faulty finding) pair reads has = absurd has
 
--- the JavaScript and the declaration of a source, if it has them
-abbrev js_in : Reading → List ℕ
-js_in (Plain file form) = js_of file
-js_in (Faulty finding) = []
+named_at : (texts : Tree) (root : List ℕ) (source : Source) (pair : Pair) → IsAtPath texts root source → In (pairs_of source) pair → stem_text root source.path ≡ Some pair.stem
+named_at texts root source pair is has = named_by root source.path source.text source.reading pair is.has_file.reads has
 
-abbrev declaration_in : Reading → List ℕ
-declaration_in (Plain file form) = declaration_of form
-declaration_in (Faulty finding) = []
-
-abbrev js_at : List ℕ → Source → Output
-js_at folder source = (output_text folder source.stem (codes ".js"), js_in source.reading)
-
-abbrev declaration_at : List ℕ → Source → Output
-declaration_at folder source = (output_text folder source.stem (codes ".d.ts"), declaration_in source.reading)
+-- a source has one pair
+only_pair : (reading : Reading) (p q : Pair) → In (pairs_by reading) p → In (pairs_by reading) q → p ≡ q
+only_pair (Plain stem file) p q i j = elim i [
+  | inl e ↦ elim j [ inl f ↦ sym e ∙ f | inr none ↦ absurd none ]
+  | inr none ↦ absurd none
+]
+only_pair (Faulty finding) p q i j = absurd i
 
 -- an output is the JavaScript or the declaration of a source, or the info
 data Kind (folder : List ℕ) (build : Build) : Output → Type 0 where
-  js : (source : Source) → In build.sources source → Kind folder build (js_at folder source)
-  declaration : (source : Source) → In build.sources source → Kind folder build (declaration_at folder source)
+  js : (pair : Pair) → In (pairs_in build) pair → Kind folder build (js_output folder pair)
+  declaration : (pair : Pair) → In (pairs_in build) pair → Kind folder build (declaration_output folder pair)
   info : Kind folder build (info_output folder build)
 
-kind_as : (folder : List ℕ) (build : Build) (source : Source) (o : Output) (reading : Reading) → source.reading ≡ reading → In build.sources source → In (outputs_by folder source.stem reading) o → Kind folder build o
-kind_as folder build source o (Plain file form) is there has = elim has [
-  | inl e ↦ subst (Kind folder build) (ap (λ (r : Reading). (output_text folder source.stem (codes ".js"), js_in r)) is ∙ e) (Kind.js source there)
+kind_by : (folder : List ℕ) (build : Build) (pair : Pair) (o : Output) → In (pairs_in build) pair → In (outputs_of folder pair) o → Kind folder build o
+kind_by folder build pair o there has = elim has [
+  | inl e ↦ subst (Kind folder build) e (Kind.js pair there)
   | inr more ↦ elim more [
-    | inl e ↦ subst (Kind folder build) (ap (λ (r : Reading). (output_text folder source.stem (codes ".d.ts"), declaration_in r)) is ∙ e) (Kind.declaration source there)
+    | inl e ↦ subst (Kind folder build) e (Kind.declaration pair there)
     | inr none ↦ absurd none
   ]
 ]
-kind_as folder build source o (Faulty finding) is there has = absurd has
-
-kind_by : (folder : List ℕ) (build : Build) (source : Source) (o : Output) → In build.sources source → In (outputs_of folder source) o → Kind folder build o
-kind_by folder build source o there has = kind_as folder build source o source.reading refl there has
 
 kind_of : (folder : List ℕ) (build : Build) (o : Output) → In (outputs_in (Some folder) build) o → Kind folder build o
-kind_of folder build o has = elim (in_append (flat_map (outputs_of folder) build.sources) (info_output folder build ∷ []) o has) [
-  | inl some ↦ let at = in_flat (outputs_of folder) build.sources o some in kind_by folder build at.0 o at.1 at.2
+kind_of folder build o has = elim (in_append (flat_map (outputs_of folder) (pairs_in build)) (info_output folder build ∷ []) o has) [
+  | inl some ↦ let at = in_flat (outputs_of folder) (pairs_in build) o some in kind_by folder build at.0 o at.1 at.2
   | inr last ↦ elim last [
     | inl e ↦ subst (Kind folder build) e Kind.info
     | inr none ↦ absurd none
@@ -141,22 +135,29 @@ kind_of folder build o has = elim (in_append (flat_map (outputs_of folder) build
 
 -- it lies in the output folder
 kind_inside : (folder : List ℕ) (build : Build) (o : Output) → Kind folder build o → is_inside folder o.0 ≡ true
-kind_inside folder build o (Kind.js source there) = output_inside folder source.stem (codes ".js") (omega arith)
-kind_inside folder build o (Kind.declaration source there) = output_inside folder source.stem (codes ".d.ts") (omega arith)
+kind_inside folder build o (Kind.js pair there) = output_inside folder pair.stem (codes ".js") (omega arith)
+kind_inside folder build o (Kind.declaration pair there) = output_inside folder pair.stem (codes ".d.ts") (omega arith)
 kind_inside folder build o Kind.info = info_inside folder
 
 module _ (texts : Tree) (folder : List ℕ) (build : Build) (are : AllByRecursion (IsAtPath texts build.project.setting.root) build.sources) where
-  one_source_of : (a b : Source) → In build.sources a → In build.sources b → a.stem ≡ b.stem → a ≡ b
-  one_source_of a b i j e =
+  -- pairs with one stem are one
+  one_pair : (p q : Pair) → In (pairs_in build) p → In (pairs_in build) q → p.stem ≡ q.stem → p ≡ q
+  one_pair p q i j e =
       let root : List ℕ = build.project.setting.root in
-      same_source texts root a b (each_of (IsAtPath texts root) build.sources a are i) (each_of (IsAtPath texts root) build.sources b are j) e
+      let a = in_flat pairs_of build.sources p i in
+      let b = in_flat pairs_of build.sources q j in
+      let is : IsAtPath texts root a.0 = each_of (IsAtPath texts root) build.sources a.0 are a.1 in
+      let other : IsAtPath texts root b.0 = each_of (IsAtPath texts root) build.sources b.0 are b.1 in
+      let same : b.0.path ≡ a.0.path = one_path root b.0.path a.0.path p.stem (named_at texts root b.0 q other b.2 ∙ ap Some (sym e)) (named_at texts root a.0 p is a.2) in
+      let one : a.0 ≡ b.0 = one_source texts root a.0.path a.0 b.0 is (subst (λ (path : List ℕ). IsSource texts root path b.0) same other) in
+      only_pair a.0.reading p q a.2 (subst (λ (s : Source). In (pairs_of s) q) (sym one) b.2)
 
   kinds_agree : (o p : Output) → Kind folder build o → Kind folder build p → o.0 ≡ p.0 → o.1 ≡ p.1
-  kinds_agree o p (Kind.js a i) (Kind.js b j) e = ap (λ (s : Source). js_in s.reading) (one_source_of a b i j (one_stem folder a.stem b.stem (codes ".js") e))
+  kinds_agree o p (Kind.js a i) (Kind.js b j) e = ap (λ (x : Pair). x.js) (one_pair a b i j (one_stem folder a.stem b.stem (codes ".js") e))
   kinds_agree o p (Kind.js a i) (Kind.declaration b j) e = absurd (js_not_declaration folder a.stem b.stem e)
   kinds_agree o p (Kind.js a i) Kind.info e = absurd (js_not_info folder a.stem e)
   kinds_agree o p (Kind.declaration a i) (Kind.js b j) e = absurd (js_not_declaration folder b.stem a.stem (sym e))
-  kinds_agree o p (Kind.declaration a i) (Kind.declaration b j) e = ap (λ (s : Source). declaration_in s.reading) (one_source_of a b i j (one_stem folder a.stem b.stem (codes ".d.ts") e))
+  kinds_agree o p (Kind.declaration a i) (Kind.declaration b j) e = ap (λ (x : Pair). x.declaration) (one_pair a b i j (one_stem folder a.stem b.stem (codes ".d.ts") e))
   kinds_agree o p (Kind.declaration a i) Kind.info e = absurd (declaration_not_info folder a.stem e)
   kinds_agree o p Kind.info (Kind.js b j) e = absurd (js_not_info folder b.stem (sym e))
   kinds_agree o p Kind.info (Kind.declaration b j) e = absurd (declaration_not_info folder b.stem (sym e))
@@ -245,7 +246,7 @@ writes_append : (xs ys : List Output) → writes (xs ++ ys) ≡ writes xs ++ wri
 writes_append [] ys = refl
 writes_append (x ∷ xs) ys = ap (λ (ss : List DiskStep). write_of x ∷ ss) (writes_append xs ys)
 
-swapped : (folder : List ℕ) (build : Build) (these those : List Source) → ((s : Source) → In these s → In those s) → (o : Output)
+swapped : (folder : List ℕ) (build : Build) (these those : List Pair) → ((p : Pair) → In these p → In those p) → (o : Output)
     → In (flat_map (outputs_of folder) these ++ info_output folder build ∷ []) o → In (flat_map (outputs_of folder) those ++ info_output folder build ∷ []) o
 swapped folder build these those more o has = elim (in_append (flat_map (outputs_of folder) these) (info_output folder build ∷ []) o has) [
   | inl some ↦
@@ -258,8 +259,8 @@ wrote_one : (folder : List ℕ) (build : Build) (steps : List DiskStep) → buil
 wrote_one folder build steps placed script = record {
   outputs = flat_map (outputs_of folder) script.ordered ++ info_output folder build ∷ [];
   are = script.are;
-  into = λ o i. subst (λ (f : Option (List ℕ)). In (outputs_in f build) o) (sym placed) (swapped folder build script.ordered build.sources (in_permuted build.sources script.ordered script.same) o i);
-  back = λ o i. swapped folder build build.sources script.ordered (λ s h. in_from script.ordered s (Contains-permutation build.sources script.ordered s script.same (in_back build.sources s h))) o
+  into = λ o i. subst (λ (f : Option (List ℕ)). In (outputs_in f build) o) (sym placed) (swapped folder build script.ordered (pairs_in build) (in_permuted (pairs_in build) script.ordered script.same) o i);
+  back = λ o i. swapped folder build (pairs_in build) script.ordered (λ p h. in_from script.ordered p (Contains-permutation (pairs_in build) script.ordered p script.same (in_back (pairs_in build) p h))) o
       (subst (λ (f : Option (List ℕ)). In (outputs_in f build) o) placed i);
 }
 

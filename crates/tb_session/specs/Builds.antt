@@ -10,8 +10,8 @@ use Rattle.tb_face.specs.declared.infos.Entry.{Entry}
 use Rattle.tb_face.specs.declared.infos.Info.{Info}
 use Rattle.tb_layout.specs.Erase.{erase}
 use Rattle.tb_layout.specs.Js.{js_text}
-use Rattle.tb_plain.specs.Surface.{surface, dts_text}
-use Rattle.tb_plain.specs.declared.trees.File.{File as PlainFile}
+use Rattle.tb_layout.specs.Surface.{surface}
+use Rattle.tb_layout.specs.Dts.{dts_text}
 use Rattle.tb_plan.specs.Plans.{plan_of, Sound, Faulted}
 use Rattle.tb_plan.specs.declared.plans.Project.{Project}
 use Rattle.tb_tree.specs.declared.items.File.{File}
@@ -40,31 +40,41 @@ builds_of clean = count_by (λ project. not (nat_eq (length project.inputs) 0)) 
 abbrev pub js_of : File → List ℕ
 js_of file = js_text (erase file)
 
-abbrev pub declaration_of : PlainFile → List ℕ
-declaration_of form = dts_text (surface form)
+abbrev pub declaration_of : File → List ℕ
+declaration_of file = dts_text (surface file)
 
--- the bytes at the output paths of a stem in an output folder; a source with a fault has none
-abbrev pub js_output : List ℕ → List ℕ → File → List ℕ × List ℕ
-js_output folder stem file = (output_text folder stem (codes ".js"), js_of file)
+-- the pair of a file's outputs: the stem of their paths, and their bytes
+pub record Pair : Type 0 where
+  pub stem : List ℕ
+  pub js : List ℕ
+  pub declaration : List ℕ
 
-abbrev pub declaration_output : List ℕ → List ℕ → PlainFile → List ℕ × List ℕ
-declaration_output folder stem form = (output_text folder stem (codes ".d.ts"), declaration_of form)
+-- a source with a fault has none
+abbrev pub pairs_by : Reading → List Pair
+pairs_by (Plain stem file) = record { stem = stem; js = js_of file; declaration = declaration_of file } ∷ []
+pairs_by (Faulty finding) = []
 
-abbrev pub outputs_by : List ℕ → List ℕ → Reading → List (List ℕ × List ℕ)
-outputs_by folder stem (Plain file form) = js_output folder stem file ∷ declaration_output folder stem form ∷ []
-outputs_by folder stem (Faulty finding) = []
+abbrev pub pairs_of : Source → List Pair
+pairs_of source = pairs_by source.reading
 
-abbrev pub outputs_of : List ℕ → Source → List (List ℕ × List ℕ)
-outputs_of folder source = outputs_by folder source.stem source.reading
+-- the bytes at the paths of a pair in an output folder
+abbrev pub js_output : List ℕ → Pair → List ℕ × List ℕ
+js_output folder pair = (output_text folder pair.stem (codes ".js"), pair.js)
+
+abbrev pub declaration_output : List ℕ → Pair → List ℕ × List ℕ
+declaration_output folder pair = (output_text folder pair.stem (codes ".d.ts"), pair.declaration)
+
+abbrev pub outputs_of : List ℕ → Pair → List (List ℕ × List ℕ)
+outputs_of folder pair = js_output folder pair ∷ declaration_output folder pair ∷ []
 
 -- the digest of its declarations, of which a source with a fault has none
 abbrev pub signature_of : Reading → Option (List ℕ)
-signature_of (Plain file form) = Some (sha (declaration_of form))
+signature_of (Plain stem file) = Some (sha (declaration_of file))
 signature_of (Faulty finding) = None
 
 -- what is found in it: its fault, if it has one
 abbrev pub findings_of : Reading → List Finding
-findings_of (Plain file form) = []
+findings_of (Plain stem file) = []
 findings_of (Faulty finding) = finding ∷ []
 
 -- what is recorded of it: a plain file imports nothing, and a file with a fault has no edges, so it reaches nothing
@@ -94,10 +104,14 @@ info_with project entries = record {
 abbrev pub info_output : List ℕ → Build → List ℕ × List ℕ
 info_output folder build = (info_text folder, spelling (info_with build.project (map record_of build.sources)))
 
+-- those of all sources
+abbrev pub pairs_in : Build → List Pair
+pairs_in build = flat_map pairs_of build.sources
+
 -- the bytes at all output paths; without an output folder there are none
 abbrev pub outputs_in : Option (List ℕ) → Build → List (List ℕ × List ℕ)
 outputs_in None build = []
-outputs_in (Some folder) build = flat_map (outputs_of folder) build.sources ++ info_output folder build ∷ []
+outputs_in (Some folder) build = flat_map (outputs_of folder) (pairs_in build) ++ info_output folder build ∷ []
 
 abbrev pub project_outputs : Build → List (List ℕ × List ℕ)
 project_outputs build = outputs_in build.project.setting.folder build

@@ -4,8 +4,8 @@ use Rattle.std.specs.Prelude.{ℕ, ◌≡◌, List, [], ◌∷◌, ◌++◌, Som
 use Rattle.tb_outside.specs.declared.disks.DiskStep.{DiskStep}
 use Rattle.tb_outside.specs.declared.disks.DiskStep.TheVariants.{Write}
 use Rattle.tb_text.specs.Bytes.{bytes_cmp}
-use Rattle.tb_session.specs.Builds.{outputs_of, info_output}
-use Rattle.tb_session.specs.Sources.{Source, Build}
+use Rattle.tb_session.specs.Builds.{Pair, pairs_in, outputs_of, info_output}
+use Rattle.tb_session.specs.Sources.{Build}
 use Rattle.tb_session.specs.declared.publishes.Script.{Script}
 
 abbrev pub write_of : List ℕ × List ℕ → DiskStep
@@ -13,10 +13,10 @@ write_of output = Write output.0 output.1
 
 -- the steps of one project with an output folder
 pub record IsScript (folder : List ℕ) (build : Build) (steps : List DiskStep) : Type 0 where
-  -- the sources by their stems
-  pub ordered : List Source
-  pub same : IsPermutation build.sources ordered
-  pub ascending : IsSortedByKey (λ source. source.stem) bytes_cmp ordered
+  -- the outputs by their stems
+  pub ordered : List Pair
+  pub same : IsPermutation (pairs_in build) ordered
+  pub ascending : IsSortedByKey (λ pair. pair.stem) bytes_cmp ordered
   pub are : steps ≡ map write_of (flat_map (outputs_of folder) ordered ++ info_output folder build ∷ [])
 
 -- the scripts of all projects that have an output folder, in plan order

@@ -1,5 +1,6 @@
 ghost use Rattle.std.specs.Prelude.{◌≡◌, ◌++◌, ◌∷◌, [], ℕ, IfOk, IsPermutation, IsSortedByKey, IsTrue, List, OnOk, map};
 ghost use Rattle.std.specs.List.{flat_map};
+ghost use Rattle.std.specs.Option.{option_to_list};
 ghost use Rattle.tb_face.specs.Infos.{spelling};
 ghost use Rattle.tb_face.specs.Outputs.{info_text};
 ghost use Rattle.tb_outside.specs.declared.disks.DiskStep.TheVariants.{Write};
@@ -8,9 +9,9 @@ ghost use Rattle.tb_text.specs.Paths.{is_path};
 ghost use Rattle.tb_session.specs.Builds.{diag_of, info_with};
 ghost use Rattle.tb_session.specs.Scripts.{IsScript};
 ghost use Rattle.tb_session.specs.Sources.{Source};
-ghost use Rattle.tb_session.specs.Emitted.{emitted_of, entry_diags, output_steps};
+ghost use Rattle.tb_session.specs.Emitted.{emitted_of, entry_diags, output_steps, outputs_made};
 
-use crate::sources::{Emitted, Outputs, Writes};
+use crate::sources::{Emitted, Outputs};
 use std::alloc::Global;
 use tb_face::{Entry, Info, info_path};
 use tb_info::write_info;
@@ -61,46 +62,60 @@ fn info_write(
 #[derive(Drop)]
 struct Parts {
     entries: List<Entry>,
-    writes: Vec<Writes>,
+    outputs: Vec<Outputs>,
 }
 
-fn taken_apart(alloc: Global, emitted: List<Emitted>) -> Result<Parts, NoMemory>
-    ensures entries { IfOk result (λ parts. parts.entries ≡ map (λ each. each.entry) emitted) }
-    ensures writes { IfOk result (λ parts. parts.writes.items ≡ map (λ each. each.writes) emitted) }
+fn push_made(outputs: &mut Vec<Outputs>, made: Option<Outputs>) -> Result<(), NoMemory>
+    ensures { OnOk result (outputs.new.items ≡ outputs.old.items ++ option_to_list made) }
 {
-    let mut entries = List::new(alloc);
-    let mut writes = Vec::new(alloc);
-    for each in emitted.into_vec() {
-        let Emitted { entry, writes: own } = each;
-        entries.push(entry)?;
-        writes.push(own)?;
-    }
-    Ok(Parts { entries, writes })
-}
-
-fn sort(writes: &mut Vec<Writes>)
-    ensures same { IsPermutation writes.old.items writes.new.items }
-    ensures ascending { IsSortedByKey (λ own. own.stem) bytes_cmp writes.new.items }
-{
-    writes.sort_unstable_by(|a, b| a.stem.cmp(&b.stem));
-}
-
-fn push_outputs(steps: &mut List<DiskStep>, outputs: Option<Outputs>) -> Result<(), NoMemory>
-    ensures { OnOk result (steps.new ≡ steps.old ++ output_steps outputs) }
-{
-    if let Some(Outputs { js, declaration }) = outputs {
-        steps.push(js)?;
-        steps.push(declaration)?;
+    if let Some(made) = made {
+        outputs.push(made)?;
     }
     Ok(())
 }
 
-fn push_writes(steps: &mut List<DiskStep>, writes: Vec<Writes>) -> Result<(), NoMemory>
-    ensures { OnOk result (steps.new ≡ steps.old ++ flat_map (λ own. output_steps own.outputs) writes.items) }
+fn taken_apart(alloc: Global, emitted: List<Emitted>) -> Result<Parts, NoMemory>
+    ensures entries { IfOk result (λ parts. parts.entries ≡ map (λ each. each.entry) emitted) }
+    ensures outputs { IfOk result (λ parts. parts.outputs.items ≡ flat_map outputs_made emitted) }
 {
-    for own in writes {
-        let Writes { stem: _, outputs } = own;
-        push_outputs(steps, outputs)?;
+    let mut entries = List::new(alloc);
+    let mut outputs = Vec::new(alloc);
+    for each in emitted.into_vec() {
+        let Emitted {
+            entry,
+            outputs: made,
+        } = each;
+        entries.push(entry)?;
+        push_made(&mut outputs, made)?;
+    }
+    Ok(Parts { entries, outputs })
+}
+
+fn sort(outputs: &mut Vec<Outputs>)
+    ensures same { IsPermutation outputs.old.items outputs.new.items }
+    ensures ascending { IsSortedByKey (λ own. own.stem) bytes_cmp outputs.new.items }
+{
+    outputs.sort_unstable_by(|a, b| a.stem.cmp(&b.stem));
+}
+
+fn push_outputs(steps: &mut List<DiskStep>, outputs: Outputs) -> Result<(), NoMemory>
+    ensures { OnOk result (steps.new ≡ steps.old ++ output_steps outputs) }
+{
+    let Outputs {
+        stem: _,
+        js,
+        declaration,
+    } = outputs;
+    steps.push(js)?;
+    steps.push(declaration)?;
+    Ok(())
+}
+
+fn push_writes(steps: &mut List<DiskStep>, outputs: Vec<Outputs>) -> Result<(), NoMemory>
+    ensures { OnOk result (steps.new ≡ steps.old ++ flat_map output_steps outputs.items) }
+{
+    for own in outputs {
+        push_outputs(steps, own)?;
     }
     Ok(())
 }
@@ -152,11 +167,11 @@ pub fn script_of(
 {
     let Parts {
         entries,
-        mut writes,
+        mut outputs,
     } = taken_apart(alloc, emitted)?;
-    sort(&mut writes);
+    sort(&mut outputs);
     let mut steps = List::new(alloc);
-    push_writes(&mut steps, writes)?;
+    push_writes(&mut steps, outputs)?;
     steps.push(info_write(alloc, project, folder, entries)?)?;
     Ok(steps)
 }

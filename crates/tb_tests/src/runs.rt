@@ -186,6 +186,64 @@ export {};
 @dist/tsconfig.tsbuildinfo
 {"builder":"tb1","files":[{"edges":[],"findings":[],"path":"lib/one.ts","reach":[],"signature":"1f3e2bec8851c16200040bde0b61a3ea7e9a34cf353eff1057b3945d54c2b1c3","version":"5a93ea3745d08ed5c8da86981593704cde8ca104889b779e9662b3c8605c0943"},{"edges":[],"findings":[],"path":"src/a-b.ts","reach":[],"signature":"8e609bb71c20b858c77f0e9f90bb1319db8477b13f9f965f1a1e18524bf50881","version":"e3b0c44298fc1c149afbf4c8996fb92427ae41e4649b934ca495991b7852b855"},{"edges":[],"findings":[],"path":"src/a.ts","reach":[],"signature":"dd7279a6e85125444c833692cc3c8492871012b0e373a73e53f2db206f3a4ec9","version":"dd7279a6e85125444c833692cc3c8492871012b0e373a73e53f2db206f3a4ec9"}],"options":"da63203dc008c1b6c8cf9d5721928538f32bf662e66073ab65130a6732d4e545","pending":[],"project":"tsconfig.json","root":""}"#;
 
+// A constant without an annotation has the type of its literal.
+const LITERAL: &str = r#"@tsconfig.json
+{"compilerOptions":{"composite":true,"outDir":"dist"}}
+@a.ts
+export const x = 1;
+"#;
+
+const LITERAL_LEAVES: &str = r#"status 0, checked 1, built 1, settled 0
+generation 0: 0 errors in 1 projects
+@dist/a.d.ts
+export declare const x: 1;
+@dist/a.js
+export const x = 1;
+@dist/tsconfig.tsbuildinfo
+{"builder":"tb1","files":[{"edges":[],"findings":[],"path":"a.ts","reach":[],"signature":"a2074470d35187a4d7597b6f5394155aed39895485549c7b4ff17782fb71ad90","version":"b40dedde60828bf61d1fadbfc3bb7ea2e0421e9511d22f1b5fb44ae5ba07dbb3"}],"options":"da63203dc008c1b6c8cf9d5721928538f32bf662e66073ab65130a6732d4e545","pending":[],"project":"tsconfig.json","root":""}"#;
+
+const LITERALS: &str = r#"@tsconfig.json
+{"compilerOptions":{"composite":true,"outDir":"dist"}}
+@a.ts
+export const half = 0.5;
+export const zero = 0;
+export const hex = 0x10;
+export const s = 'a"b';
+export const yes = true;
+export const no: boolean = false;
+export interface I { x: number; }
+export type T = string;
+@b.ts
+export const a: number = 1;
+"#;
+
+const LITERALS_LEAVE: &str = r#"status 0, checked 2, built 1, settled 0
+generation 0: 0 errors in 1 projects
+@dist/a.d.ts
+export declare const half: number;
+export declare const zero: 0;
+export declare const hex: number;
+export declare const s: "a\"b";
+export declare const yes: true;
+export declare const no: boolean;
+export interface I {
+    x: number;
+}
+export type T = string;
+@dist/a.js
+export const half = 0.5;
+export const zero = 0;
+export const hex = 0x10;
+export const s = 'a"b';
+export const yes = true;
+export const no = false;
+@dist/b.d.ts
+export declare const a: number;
+@dist/b.js
+export const a = 1;
+@dist/tsconfig.tsbuildinfo
+{"builder":"tb1","files":[{"edges":[],"findings":[],"path":"a.ts","reach":[],"signature":"6680d217a605effb76da264677dce225223ba2d80b8098c5e7cd7657cd3dd8ad","version":"d5d865bcaff3f5a03c47cda88d818b86491d734bc9b0d7e2eed0d25c54369aa9"},{"edges":[],"findings":[],"path":"b.ts","reach":[],"signature":"52db5d1a3fa84d3692297673f6fede59e50d94b4ed2cab8398c7a65e1a45e6fa","version":"8fbccf1f29c58f5ceefc8a9a2d793cadf78d1f97e74c5e33b231b96a0cf74c66"}],"options":"da63203dc008c1b6c8cf9d5721928538f32bf662e66073ab65130a6732d4e545","pending":[],"project":"tsconfig.json","root":""}"#;
+
 // Beside the one file, others that the config does not find.
 const UNFOUND: &str = r#"@tsconfig.json
 {"compilerOptions":{"composite":true,"outDir":"dist"}}
@@ -241,14 +299,16 @@ fn row(case: u8) -> (&'static str, &'static str, &'static str) {
         15 => ("", FOLDERS, FOLDERS_LEAVE),
         16 => ("", UNFOUND, ONE_LEAVES),
         17 => ("", MARKED, ONE_LEAVES),
-        _ => ("", SOLUTION_WITH_FOLDER, SOLUTION_LEAVES),
+        18 => ("", SOLUTION_WITH_FOLDER, SOLUTION_LEAVES),
+        19 => ("", LITERAL, LITERAL_LEAVES),
+        _ => ("", LITERALS, LITERALS_LEAVE),
     }
 }
 
 #[test]
 fn whole_runs_leave_just_this(rt: HostRuntime) -> Result<(), Fail> {
     let alloc = rt.alloc();
-    for case in 0..19u8 {
+    for case in 0..21u8 {
         let (words, files, wanted) = row(case);
         let run = fresh(alloc, words, workspace(alloc, files)?)?;
         let left = left_by(alloc, &run)?;

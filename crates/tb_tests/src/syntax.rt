@@ -57,6 +57,54 @@ project tsconfig.json: 0 files, 0 errors
 generation 0: 3 errors in 4 projects
 ";
 
+// The second item of the declaration file would be one of a source.
+const DECLARED: &str = r#"@tsconfig.json
+{"compilerOptions":{"composite":true,"outDir":"dist"}}
+@a.ts
+export const a: number = 1;
+@b.d.ts
+export declare const b: number;
+export const b: number = 1;
+@c.ts
+"#;
+
+const DECLARED_LEAVES: &str = r#"status 2, checked 3, built 1, settled 0
+b.d.ts(2,1): error TB1001: This item has no reading.
+generation 0: 1 errors in 1 projects
+@dist/a.d.ts
+export declare const a: number;
+@dist/a.js
+export const a = 1;
+@dist/c.d.ts
+export {};
+@dist/c.js
+export {};
+@dist/tsconfig.tsbuildinfo
+{"builder":"tb1","files":[{"edges":[],"findings":[],"path":"a.ts","reach":[],"signature":"52db5d1a3fa84d3692297673f6fede59e50d94b4ed2cab8398c7a65e1a45e6fa","version":"8fbccf1f29c58f5ceefc8a9a2d793cadf78d1f97e74c5e33b231b96a0cf74c66"},{"edges":[],"findings":[[32,"TB1001","",""]],"path":"b.d.ts","reach":[],"signature":null,"version":"726a431459fba453fc79daf8e0017319f92c5f7d9de5b50de1d90538e94c46b3"},{"edges":[],"findings":[],"path":"c.ts","reach":[],"signature":"8e609bb71c20b858c77f0e9f90bb1319db8477b13f9f965f1a1e18524bf50881","version":"e3b0c44298fc1c149afbf4c8996fb92427ae41e4649b934ca495991b7852b855"}],"options":"da63203dc008c1b6c8cf9d5721928538f32bf662e66073ab65130a6732d4e545","pending":[],"project":"tsconfig.json","root":""}"#;
+
+// The one input is a declaration file, in which an empty statement stands.
+const LONE: &str = r#"@tsconfig.json
+{"compilerOptions":{"composite":true,"outDir":"dist"}}
+@m.d.ts
+interface I { };
+"#;
+
+const LONE_LEAVES: &str = r#"status 2, checked 1, built 1, settled 0
+m.d.ts(1,16): error TB1001: This item has no reading.
+generation 0: 1 errors in 1 projects
+@dist/tsconfig.tsbuildinfo
+{"builder":"tb1","files":[{"edges":[],"findings":[[15,"TB1001","",""]],"path":"m.d.ts","reach":[],"signature":null,"version":"57e30c4912853ac90195cf35d1637bd1f7ec75c8759ff9b8ab4065db40381752"}],"options":"da63203dc008c1b6c8cf9d5721928538f32bf662e66073ab65130a6732d4e545","pending":[],"project":"tsconfig.json","root":""}"#;
+
+#[test]
+fn a_declaration_file_without_a_reading_has_its_finding(rt: HostRuntime) -> Result<(), Fail> {
+    let alloc = rt.alloc();
+    let run = fresh(alloc, "", workspace(alloc, DECLARED)?)?;
+    assert_eq!(rt; left_by(alloc, &run)?.as_str(), DECLARED_LEAVES);
+    let run = fresh(alloc, "", workspace(alloc, LONE)?)?;
+    assert_eq!(rt; left_by(alloc, &run)?.as_str(), LONE_LEAVES);
+    Ok(())
+}
+
 #[test]
 fn a_file_without_a_reading_has_its_finding_and_no_outputs(rt: HostRuntime) -> Result<(), Fail> {
     let alloc = rt.alloc();
@@ -108,6 +156,46 @@ fn the_greatest_depth_is_read_and_no_greater_one(rt: HostRuntime) -> Result<(), 
     assert_eq!(rt; status, 75);
     let (printed, status) = prints(alloc, nested(alloc, 200)?.as_bytes())?;
     assert_eq!(rt; printed.as_str(), DEEP_PRINTS);
+    assert_eq!(rt; status, 2);
+    Ok(())
+}
+
+// What is printed where one of two files is a declaration file with this text; and the status.
+fn prints_declared(alloc: Global, text: &[u8]) -> Result<(String, u8), Fail> {
+    let mut texts = workspace(alloc, LONE)?;
+    add(alloc, &mut texts, "m.d.ts", text)?;
+    add(alloc, &mut texts, "n.ts", b"")?;
+    let run = fresh(alloc, "", texts)?;
+    let printed = String::from_str(alloc, std::str::from_utf8(run.out.taken())?)?;
+    Ok((printed, run.status.code()))
+}
+
+const ODD_DECLARED_PRINTS: &str = "m.d.ts(1,1): error TB1002: The file is not UTF-8.
+generation 0: 1 errors in 1 projects
+";
+
+// Texts of declaration files: the first three read, and the others would do so as sources.
+fn declared(case: u8) -> &'static [u8] {
+    match case {
+        0 => b"",
+        1 => b"export declare const a: 1;",
+        2 => b"export {};",
+        3 => b"export const a: 1 = 1;",
+        4 => b";",
+        _ => b"function f() {}",
+    }
+}
+
+#[test]
+fn declaration_files_have_a_grammar_of_their_own(rt: HostRuntime) -> Result<(), Fail> {
+    let alloc = rt.alloc();
+    for case in 0..6u8 {
+        let (_, status) = prints_declared(alloc, declared(case))?;
+        let wanted = if case < 3 { 75 } else { 2 };
+        assert_eq!(rt; status, wanted, "in case {case}");
+    }
+    let (printed, status) = prints_declared(alloc, b"\xFF")?;
+    assert_eq!(rt; printed.as_str(), ODD_DECLARED_PRINTS);
     assert_eq!(rt; status, 2);
     Ok(())
 }

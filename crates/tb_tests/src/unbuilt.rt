@@ -13,7 +13,7 @@ fn change(case: u8) -> &'static str {
         2 => "@app/m.ts\nexport function f(): number { return 1; }\n",
         3 => "@app/m.ts\nexport let a: number = 1;\n",
         4 => "@app/m.ts\nexport const a: number = \"x\";\n",
-        5 => "@app/m.ts\nexport const a = 1;\n",
+        5 => "@app/m.ts\nexport const a = (1);\n",
         6 => "@app/m.ts\nconst a: number = 1;\n",
         7 => "@app/m.ts\nexport const a: number = 1;\nexport type a = string;\n",
         8 => "@app/m.ts\nexport interface A { x: number; x: string; }\n",
@@ -35,8 +35,18 @@ fn change(case: u8) -> &'static str {
         21 => "@app/m.ts\nexport type A = | number;\n",
         22 => "@app/m.ts\nexport interface A { x: number, y: string; }\n",
         23 => "@app/m.ts\nexport interface A { x: number; y: string }\n",
-        // Beside a file without a reading.
-        _ => "@core/a.ts\nconst;\n@app/m.ts\nexport {};\n",
+        24 => "@app/m.ts\nexport const a = -1;\n",
+        25 => "@app/m.ts\nexport let a = 1;\n",
+        26 => "@app/m.ts\nexport const a = null;\n",
+        27 => "@app/m.ts\nexport const a = `a`;\n",
+        28 => "@app/m.ts\nexport const a: any = 1;\n",
+        29 => "@app/m.ts\nexport const a = 1;\nexport const a = 2;\n",
+        30 => "@app/n.d.ts\nexport declare const a: 1;\n",
+        // Beside files without a reading.
+        31 => "@core/a.ts\nconst;\n@app/m.ts\nexport {};\n",
+        32 => "@core/c.d.ts\nconst;\n@app/m.ts\nexport {};\n",
+        33 => "@core/a.ts\nconst;\n@app/n.d.ts\n",
+        _ => "@core/c.d.ts\nconst;\n@app/n.d.ts\n",
     }
 }
 
@@ -48,7 +58,7 @@ fn changed(alloc: Global, case: u8) -> Result<Texts, Fail> {
 #[test]
 fn what_is_not_built_yet_touches_nothing(rt: HostRuntime) -> Result<(), Fail> {
     let alloc = rt.alloc();
-    for case in 0..25u8 {
+    for case in 0..35u8 {
         // The first call of the disk and of the sink would fail.
         let disk = disk(alloc, Some(0))?;
         let run = go(alloc, "app", changed(alloc, case)?, disk, None, Some(0))?;

@@ -3,4 +3,4 @@ use Rattle.tb_session.specs.Emitted.{output_steps}
 use Rattle.tb_session.proofs.scripts.push_writes.Given as goal
 
 abbrev pub invariant-loop-own : goal.invariant-loop-own
-invariant-loop-own l = l.steps ≡ l.fn.steps ++ flat_map (λ own. output_steps own.outputs) l.yielded
+invariant-loop-own l = l.steps ≡ l.fn.steps ++ flat_map output_steps l.yielded
