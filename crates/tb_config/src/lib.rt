@@ -13,6 +13,3 @@ mod walks;
 
 pub use reading::read_setting;
 pub use setting::{PathRule, Setting, SettingFault};
-
-#[cfg(test)]
-mod tests;

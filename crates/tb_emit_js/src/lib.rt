@@ -10,6 +10,3 @@ mod texts;
 mod trees;
 
 pub use layout::js;
-
-#[cfg(test)]
-mod tests;

@@ -6,8 +6,6 @@ mod digests;
 mod infos;
 mod options;
 mod outputs;
-#[cfg(test)]
-mod tests;
 
 pub use digests::{signature, version};
 pub use infos::{BUILDER, Entry, Info, InfoFault, Reach};

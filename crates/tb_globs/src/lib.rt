@@ -12,6 +12,3 @@ mod walk;
 
 pub use parts::UseOf;
 pub use pattern::{Pattern, matches};
-
-#[cfg(test)]
-mod tests;

@@ -2,8 +2,6 @@
 #![tactic(auto)]
 
 mod orders;
-#[cfg(test)]
-mod tests;
 mod visits;
 
 pub use orders::{OrderFault, order};

@@ -5,8 +5,6 @@ mod exact;
 mod faults;
 mod fitting;
 mod reading;
-#[cfg(test)]
-mod tests;
 mod writing;
 
 pub use exact::{one_text, read_info};

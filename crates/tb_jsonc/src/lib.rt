@@ -12,6 +12,3 @@ mod reading;
 pub use blanking::blanked;
 pub use fault::JsonFault;
 pub use reading::read_json;
-
-#[cfg(test)]
-mod tests;

@@ -23,8 +23,6 @@ mod primaries;
 mod statements;
 mod stmts;
 mod switches;
-#[cfg(test)]
-mod tests;
 mod vars;
 
 pub use fronts::{Around, Front, StmtFront};

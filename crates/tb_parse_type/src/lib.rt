@@ -8,8 +8,6 @@ mod parse;
 mod parts;
 mod reader;
 mod symbols;
-#[cfg(test)]
-mod tests;
 mod words;
 
 pub use parse::{type_at, type_members_at, type_params_at};

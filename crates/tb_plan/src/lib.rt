@@ -25,6 +25,3 @@ mod visit;
 mod within;
 
 pub use plans::{Plan, PlanFault, Project, make_plan};
-
-#[cfg(test)]
-mod tests;

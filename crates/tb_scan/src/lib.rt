@@ -13,8 +13,6 @@ mod numbers;
 mod pieces;
 mod scanner;
 mod spacing;
-#[cfg(test)]
-mod tests;
 mod token;
 
 pub use braces::{Braces, Bracket};

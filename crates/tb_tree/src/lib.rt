@@ -1,8 +1,6 @@
 //! The alphabet of the language, its trees and its grammar.
 #![tactic(auto)]
 
-#[cfg(test)]
-mod depth_tests;
 mod depths;
 mod expr_depths;
 mod exprs;
@@ -10,8 +8,6 @@ mod items;
 mod marks;
 mod numbers;
 mod spellings;
-#[cfg(test)]
-mod tests;
 mod type_depths;
 mod types;
 mod words;

@@ -5,7 +5,5 @@ mod commands;
 mod numbers;
 mod parse;
 mod roots;
-#[cfg(test)]
-mod tests;
 
 pub use commands::{Command, WordsFault, read_words};

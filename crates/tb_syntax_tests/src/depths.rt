@@ -1,12 +1,14 @@
-use crate::{
-    Alias, ArrowBody, Block, BlockItem, Declaration, Expr, Item, Param, Stmt, TypeExpr,
-    TypeKeyword, TypeParam, depth,
-};
+//! Tests of the depths of `tb_tree`.
+
 use sqlite_items::{Boxed, Items};
 use std::alloc::Global;
 use std::rt::HostRuntime;
 use std::test::Fail;
 use tb_text::{Name, NoMemory};
+use tb_tree::{
+    Alias, ArrowBody, Block, BlockItem, Declaration, Expr, Item, Param, Stmt, TypeExpr,
+    TypeKeyword, TypeParam, depth,
+};
 
 // `1`, in that many parentheses
 fn one(alloc: Global, parens: usize) -> Result<Expr, NoMemory> {

@@ -1,11 +1,14 @@
-use crate::{
-    Limits, MAX_COUNT, ReadFault, Reader, read_type, type_at, type_members_at, type_params_at,
-};
+//! Tests of `tb_parse_type`.
+
+use crate::shared::{key_text, nested, row};
 use std::alloc::{AllocError, Global};
 use std::rt::HostRuntime;
 use std::test::Fail;
+use tb_parse_type::{
+    Limits, MAX_COUNT, ReadFault, Reader, read_type, type_at, type_members_at, type_params_at,
+};
 use tb_scan::scan;
-use tb_tree::{Key, TypeExpr, TypeKeyword, TypeMember, TypeParam};
+use tb_tree::{TypeExpr, TypeKeyword, TypeMember, TypeParam};
 
 fn keyword_text(keyword: TypeKeyword) -> &'static str {
     match keyword {
@@ -110,13 +113,6 @@ fn show_params(out: &mut String, params: &[TypeParam], places: bool) -> Result<(
         out.push_str("; ")?;
     }
     out.push_str("=> ")
-}
-
-fn key_text(key: &Key) -> &str {
-    match key {
-        Key::Word(name) => name.as_str(),
-        Key::String(name) => name.as_str(),
-    }
 }
 
 #[cycle(show)]
@@ -260,10 +256,7 @@ a b~1 a
 #[test]
 fn reads_the_longest_front(rt: HostRuntime) -> Result<(), Fail> {
     for line in ROWS.lines() {
-        let (text, wanted) = match line.split_once('~') {
-            Some(row) => row,
-            None => (line, ""),
-        };
+        let (text, wanted) = row(line);
         let found = shown(rt.alloc(), text, 0, false)?;
         assert_eq!(rt; found.as_str(), wanted, "{text}");
     }
@@ -302,25 +295,6 @@ fn tells_where_each_begins(rt: HostRuntime) -> Result<(), Fail> {
         assert_eq!(rt; found.as_str(), wanted, "{text}");
     }
     Ok(())
-}
-
-// so many times one text, a text, and so many times another
-fn nested(
-    alloc: Global,
-    before: &str,
-    text: &str,
-    behind: &str,
-    count: usize,
-) -> Result<String, AllocError> {
-    let mut out = String::new(alloc);
-    for _ in 0..count {
-        out.push_str(before)?;
-    }
-    out.push_str(text)?;
-    for _ in 0..count {
-        out.push_str(behind)?;
-    }
-    Ok(out)
 }
 
 // the place behind the type that is read, or 0

@@ -1,6 +1,8 @@
-use crate::{is_name, is_type_name, mark_of, word_of};
+//! Tests of the words and marks of `tb_tree`.
+
 use std::rt::HostRuntime;
 use std::test::Fail;
+use tb_tree::{is_name, is_type_name, mark_of, word_of};
 
 #[test]
 fn tells_words_apart(rt: HostRuntime) -> Result<(), Fail> {

@@ -1,6 +1,8 @@
-use super::{Kind, scan};
+//! Tests of `tb_scan`.
+
 use std::alloc::Global;
 use std::test::Fail;
+use tb_scan::{Kind, scan};
 
 /// The tokens of a text, each by its kind and its text, in brackets.
 fn shown(alloc: Global, text: &str) -> Result<String, Fail> {

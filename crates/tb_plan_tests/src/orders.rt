@@ -1,9 +1,11 @@
+//! Tests of `tb_graph`.
+
 ghost use Rattle.std.specs.Prelude.{◌≡◌, ◌<◌, length, All, IfOk};
 ghost use Rattle.tb_graph.specs.Graphs.{AreNodes};
 
-use crate::{OrderFault, order};
 use std::alloc::Global;
 use std::test::Fail;
+use tb_graph::{OrderFault, order};
 use tb_text::List;
 
 /// The numbers of digits, taken below `count`.

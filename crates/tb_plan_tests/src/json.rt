@@ -1,6 +1,8 @@
-use crate::{JsonFault, blanked, read_json};
+//! Tests of `tb_jsonc`.
+
 use serde_json::Value;
 use std::test::Fail;
+use tb_jsonc::{JsonFault, blanked, read_json};
 
 const BLANKED: [(&'static str, &'static str); 18] = [
     ("[1,/*x*/]", "[1      ]"),

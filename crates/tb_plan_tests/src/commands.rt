@@ -1,7 +1,9 @@
-use crate::{Command, WordsFault, read_words};
+//! Tests of `tb_words`.
+
 use std::alloc::{AllocError, Global};
 use std::test::Fail;
 use tb_text::UsageFault;
+use tb_words::{Command, WordsFault, read_words};
 
 /// The words of a line, with a blank between them.
 fn words_of(alloc: Global, line: &str) -> Result<Vec<String>, AllocError> {

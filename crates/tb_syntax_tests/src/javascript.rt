@@ -1,8 +1,10 @@
-use super::*;
+//! Tests of `tb_emit_js`.
+
 use sqlite_items::{Boxed, Items};
 use std::alloc::Global;
 use std::rt::HostRuntime;
 use std::test::Fail;
+use tb_emit_js::js;
 use tb_text::{Name, NoMemory, Text};
 use tb_tree::{
     Alias, ArrowBody, BinaryOperator, Block, BlockItem, ClassDeclaration, ClassMember, Clause,

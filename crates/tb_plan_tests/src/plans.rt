@@ -1,6 +1,9 @@
-use crate::{Plan, PlanFault, Project, make_plan};
+//! Tests of `tb_plan`.
+
+use crate::shared::add;
 use std::alloc::Global;
 use std::test::Fail;
+use tb_plan::{Plan, PlanFault, Project, make_plan};
 use tb_text::{Diag, List, Path, Status, Text, Texts};
 
 /// The roots; the files, each a path and its text, where it has one; and what they give.
@@ -113,9 +116,7 @@ fn add_file(alloc: Global, line: &str, tree: &mut Texts) -> Result<(), Fail> {
         Some((path, text)) => (path, text),
         None => (line, ""),
     };
-    let path = Path::read(alloc, path)?;
-    tree.insert(path, Text::copy_of(alloc, text.as_bytes())?)?;
-    Ok(())
+    add(alloc, tree, path, text)
 }
 
 fn tree_of(alloc: Global, files: &str) -> Result<Texts, Fail> {

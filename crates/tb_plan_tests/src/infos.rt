@@ -1,7 +1,10 @@
-use super::*;
+//! Tests of `tb_info`.
+
+use crate::shared::smallest_options;
 use std::alloc::Global;
 use std::test::Fail;
-use tb_face::{Entry, Info, InfoFault, Options, options_digest, signature, version};
+use tb_face::{Entry, Info, InfoFault, options_digest, signature, version};
+use tb_info::{read_info, write_info};
 use tb_text::{List, Path};
 
 // The info of a project with the one file `a.ts`, whose text is `export const a: number = 1;` with a line end and whose
@@ -36,12 +39,7 @@ fn spells_an_info_that_is_made(rt: HostRuntime) -> Result<(), Fail> {
         reach: List::new(rt.alloc()),
         findings: List::new(rt.alloc()),
     })?;
-    let options = Options {
-        out_dir: Path::read(rt.alloc(), "dist")?,
-        paths: List::new(rt.alloc()),
-        project: Path::read(rt.alloc(), "tsconfig.json")?,
-        root_dir: Path::read(rt.alloc(), "")?,
-    };
+    let options = smallest_options(rt.alloc())?;
     let info = Info {
         project: Path::read(rt.alloc(), "tsconfig.json")?,
         root: Path::read(rt.alloc(), "")?,

@@ -1,6 +1,8 @@
-use crate::{Pattern, UseOf, matches};
+//! Tests of `tb_globs`.
+
 use std::alloc::Global;
 use std::test::Fail;
+use tb_globs::{Pattern, UseOf, matches};
 use tb_text::{Path, PathFault};
 
 /// The folder of the config, the pattern's text, a path, and whether the pattern matches it.

@@ -1,9 +1,12 @@
-use crate::{PathRule, Setting, SettingFault, read_setting};
+//! Tests of `tb_config`.
+
+use crate::shared::add;
 use std::alloc::Global;
 use std::fmt::Write;
 use std::test::Fail;
+use tb_config::{PathRule, Setting, SettingFault, read_setting};
 use tb_globs::Pattern;
-use tb_text::{Diag, List, Name, Path, Text, Texts};
+use tb_text::{Diag, List, Name, Path, Texts};
 
 /// A path, and the text of its file; or a config's text, and its faults.
 type Row = (&'static str, &'static str);
@@ -196,14 +199,6 @@ const BASES: [Row; 5] = [
         "{\"extends\": \"./good\", \"references\": 1}",
     ),
 ];
-
-fn add(alloc: Global, tree: &mut Texts, path: &str, text: &str) -> Result<(), Fail> {
-    tree.insert(
-        Path::read(alloc, path)?,
-        Text::copy_of(alloc, text.as_bytes())?,
-    )?;
-    Ok(())
-}
 
 fn tree_of(alloc: Global, files: &[Row]) -> Result<Texts, Fail> {
     let mut tree = Texts::new(alloc);

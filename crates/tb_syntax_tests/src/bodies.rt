@@ -1,14 +1,17 @@
-use crate::{read_expr, read_stmt};
+//! Tests of `tb_parse_body`.
+
+use crate::shared::{key_text, nested, row};
 use sqlite_items::Boxed;
 use std::alloc::{AllocError, Global};
 use std::rt::HostRuntime;
 use std::test::Fail;
+use tb_parse_body::{read_expr, read_stmt};
 use tb_parse_type::ReadFault;
 use tb_scan::scan;
 use tb_tree::{
     ArrowBody, AssignOperator, BinaryOperator, Block, BlockItem, Clause, Declarator, Expr,
-    ForStart, Function, Key, Param, Prop, Stmt, TemplateSpan, TypeExpr, UnaryOperator,
-    UpdateOperator, Var, VarKind,
+    ForStart, Function, Param, Prop, Stmt, TemplateSpan, TypeExpr, UnaryOperator, UpdateOperator,
+    Var, VarKind,
 };
 
 fn unary_text(operator: UnaryOperator) -> &'static str {
@@ -61,13 +64,6 @@ fn kind_text(kind: VarKind) -> &'static str {
     match kind {
         VarKind::Const => "const ",
         VarKind::Let => "let ",
-    }
-}
-
-fn key_text(key: &Key) -> &str {
-    match key {
-        Key::Word(name) => name.as_str(),
-        Key::String(name) => name.as_str(),
     }
 }
 
@@ -526,9 +522,19 @@ fn show_at(out: &mut String, of: &Expr, next: usize) -> Result<(), Fail> {
     Ok(())
 }
 
-// An expression that was read is owned by a function of its own: what a function owns is what its check grows with.
+fn show_stmt_at(out: &mut String, of: &Stmt, next: usize) -> Result<(), Fail> {
+    write!(out, "{next} ")?;
+    show_stmt(out, of)?;
+    Ok(())
+}
+
+// What was read is owned by a function of its own: what a function owns is what its check grows with.
 fn show_front(out: &mut String, of: Expr, next: usize) -> Result<(), Fail> {
     show_at(out, &of, next)
+}
+
+fn show_stmt_front(out: &mut String, of: Stmt, next: usize) -> Result<(), Fail> {
+    show_stmt_at(out, &of, next)
 }
 
 // How many tokens the expression at the front takes, and the expression; or `-`.
@@ -548,10 +554,7 @@ fn shown_stmt(alloc: Global, text: &str, in_body: bool) -> Result<String, Fail> 
     let tokens = scan(alloc, text)?;
     let mut out = String::new(alloc);
     match read_stmt(alloc, tokens.as_slice(), text, 0, in_body) {
-        Ok((of, next)) => {
-            write!(out, "{next} ")?;
-            show_stmt(&mut out, &of)?;
-        }
+        Ok((of, next)) => show_stmt_front(&mut out, of, next)?,
         Err(ReadFault::NotDerived) => out.push_str("-")?,
         Err(ReadFault::NoMemory) => out.push_str("?")?,
     }
@@ -718,10 +721,7 @@ f(a => b, (c) => d)~12 call[f, [(a;) => b];[(c;) => d];]
 #[test]
 fn reads_the_longest_expression(rt: HostRuntime) -> Result<(), Fail> {
     for line in EXPRS.lines() {
-        let (text, wanted) = match line.split_once('~') {
-            Some(row) => row,
-            None => (line, ""),
-        };
+        let (text, wanted) = row(line);
         let found = shown_expr(rt.alloc(), text)?;
         assert_eq!(rt; found.as_str(), wanted, "{text}");
     }
@@ -796,10 +796,7 @@ switch (a) { b; }~-
 #[test]
 fn reads_the_longest_statement(rt: HostRuntime) -> Result<(), Fail> {
     for line in STMTS.lines() {
-        let (text, wanted) = match line.split_once('~') {
-            Some(row) => row,
-            None => (line, ""),
-        };
+        let (text, wanted) = row(line);
         let found = shown_stmt(rt.alloc(), text, false)?;
         assert_eq!(rt; found.as_str(), wanted, "{text}");
     }
@@ -825,25 +822,6 @@ fn returns_stand_in_bodies(rt: HostRuntime) -> Result<(), Fail> {
         assert_eq!(rt; found.as_str(), wanted, "{text}");
     }
     Ok(())
-}
-
-// so many times one text, a text, and so many times another
-fn nested(
-    alloc: Global,
-    before: &str,
-    text: &str,
-    behind: &str,
-    count: usize,
-) -> Result<String, AllocError> {
-    let mut out = String::new(alloc);
-    for _ in 0..count {
-        out.push_str(before)?;
-    }
-    out.push_str(text)?;
-    for _ in 0..count {
-        out.push_str(behind)?;
-    }
-    Ok(out)
 }
 
 // the place behind the statement that is read, or 0

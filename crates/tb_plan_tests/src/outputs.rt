@@ -1,6 +1,12 @@
-use super::*;
+//! Tests of `tb_face`.
+
+use crate::shared::smallest_options;
 use std::alloc::Global;
 use std::test::Fail;
+use tb_face::{
+    DECLARATION, PathEntry, SCRIPT, info_path, new_info_path, options_digest, options_text,
+    output_path, signature, stem_of, version,
+};
 use tb_text::{Digest, List, Name, Path};
 
 // The standard's own examples of SHA-256: a text of one block, and the empty text.
@@ -33,12 +39,7 @@ fn is_written(alloc: Global, digest: Digest, text: &str) -> bool {
 // The digest is that of `printf '..' | sha256sum`.
 #[test]
 fn options_are_spelled_and_digested(rt: HostRuntime) -> Result<(), Fail> {
-    let mut options = Options {
-        out_dir: Path::read(rt.alloc(), "dist")?,
-        paths: List::new(rt.alloc()),
-        project: Path::read(rt.alloc(), "tsconfig.json")?,
-        root_dir: Path::read(rt.alloc(), "")?,
-    };
+    let mut options = smallest_options(rt.alloc())?;
     let text = options_text(rt.alloc(), &options)?;
     assert!(rt;
         text.as_slice()
