@@ -1,1 +1,4 @@
 pub mod Complaints
+pub mod Errors
+pub mod Folders
+pub mod Noted

@@ -1,9 +1,14 @@
-ghost use Rattle.std.specs.Prelude.{◌≡◌, false, None, refl};
+ghost use Rattle.std.specs.Prelude.{◌≡◌, false, None, OnOk, refl};
+ghost use Rattle.std.specs.BTreeSet.{btree_set_len};
+ghost use Rattle.std.specs.Result.{ForOk};
+ghost use Rattle.tb_outside.specs.Causes.{Causes, has_failed};
+ghost use Rattle.tb_main.specs.Noted.{IsNoted};
 
 use crate::changes::Changes;
 use crate::faults::Faults;
-use crate::files::{move_file, read_file, remove_file, write_file};
+use crate::files::{move_file, read_file, remove_file};
 use crate::listings::{Reach, list_files};
+use crate::places::{Places, write_file};
 use std::alloc::Global;
 use std::io;
 use std::rt::Files;
@@ -21,11 +26,13 @@ pub struct RealDisk<'a, R> {
     settle: Settle,
     faults: Faults,
     ghost settles: { IsAlwaysCallable settle },
+    ghost clears: { (changes : _) (answer : _) (left : _) → post settle changes answer left → ForOk answer (λ done. btree_set_len left.now.places ≡ 0) },
 }
 
 impl<'a, R> RealDisk<'a, R> {
     pub fn new(rt: &'a R, alloc: Global, settle: Settle) -> RealDisk<'a, R>
-        requires { IsAlwaysCallable settle }
+        requires settles { IsAlwaysCallable settle }
+        requires clears { (changes : _) (answer : _) (left : _) → post settle changes answer left → ForOk answer (λ done. btree_set_len left.now.places ≡ 0) }
     {
         RealDisk {
             rt,
@@ -36,14 +43,35 @@ impl<'a, R> RealDisk<'a, R> {
     }
 }
 
-impl<'a, R: Files> RealDisk<'a, R> {
+impl<'a, R: Places> RealDisk<'a, R> {
     fn put(&mut self, path: &str, bytes: &[u8]) -> io::Result<()>
-        ensures { self.new.faults ≡ self.old.faults }
+        ensures noted { OnOk result (IsNoted self.new.changes.places path.now) }
+        ensures held { OnOk result (R.holds path.now bytes.now) }
+        ensures faults { self.new.faults ≡ self.old.faults }
     {
         self.changes.note(path)?;
         write_file(self.rt, self.changes.alloc(), path, bytes)
     }
 
+    fn write_down(&mut self, path: &str, bytes: &[u8]) -> Result<(), Failed>
+        ensures cause { Causes self.old.faults.count self.new.faults.count (has_failed result) }
+        ensures noted { OnOk result (IsNoted self.new.changes.places path.now) }
+        ensures held { OnOk result (R.holds path.now bytes.now) }
+    {
+        let answer = self.put(path, bytes);
+        self.faults.done(answer)
+    }
+
+    fn write_out(&mut self) -> Result<(), Failed>
+        ensures cause { Causes self.old.faults.count self.new.faults.count (has_failed result) }
+        ensures none_left { OnOk result (btree_set_len self.new.changes.places ≡ 0) }
+    {
+        let answer = (self.settle)(&mut self.changes);
+        self.faults.done(answer)
+    }
+}
+
+impl<'a, R: Files> RealDisk<'a, R> {
     fn shift(&mut self, from: &str, to: &str) -> io::Result<()>
         ensures { self.new.faults ≡ self.old.faults }
     {
@@ -92,8 +120,7 @@ impl<'a, R: Files + AllocGlobal + Clone + Drop> Disk for RealDisk<'a, R> {
     }
 
     fn write(&mut self, path: &Path, bytes: &[u8]) -> Result<(), Failed> {
-        let answer = self.put(path.as_str(), bytes);
-        self.faults.done(answer)
+        self.write_down(path.as_str(), bytes)
     }
 
     fn rename(&mut self, from: &Path, to: &Path) -> Result<(), Failed> {
@@ -107,7 +134,6 @@ impl<'a, R: Files + AllocGlobal + Clone + Drop> Disk for RealDisk<'a, R> {
     }
 
     fn sync(&mut self) -> Result<(), Failed> {
-        let answer = (self.settle)(&mut self.changes);
-        self.faults.done(answer)
+        self.write_out()
     }
 }

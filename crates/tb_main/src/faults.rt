@@ -1,5 +1,7 @@
-ghost use Rattle.std.specs.Prelude.{◌≡◌, ◌≤◌, IfOk, Ok};
+ghost use Rattle.std.specs.Prelude.{◌≡◌, ◌≤◌, Err, MatchResult, Ok, is_ok};
+ghost use Rattle.std.specs.IoError.{error_kind};
 ghost use Rattle.tb_outside.specs.Causes.{Causes, Rose, has_failed, has_fault};
+ghost use Rattle.tb_main.specs.Errors.{trouble_of};
 
 use std::io;
 use std::io::ErrorKind;
@@ -27,7 +29,7 @@ impl Faults {
     /// What a call answers where the system answered so. Refused memory is no fault.
     pub fn told<T: Drop>(&mut self, answer: io::Result<T>) -> Result<T, Trouble>
         ensures cause { Causes self.old.count self.new.count (has_fault result) }
-        ensures ok { IfOk result (λ value. answer ≡ Ok value) }
+        ensures answer { MatchResult answer (λ value. result ≡ Ok value) (λ error. result ≡ Err (trouble_of (error_kind error))) }
     {
         match answer {
             Ok(value) => Ok(value),
@@ -42,6 +44,7 @@ impl Faults {
     /// The same of a call that has no answer for want of memory: there it is a fault like any other.
     pub fn done(&mut self, answer: io::Result<()>) -> Result<(), Failed>
         ensures cause { Causes self.old.count self.new.count (has_failed result) }
+        ensures answer { is_ok result ≡ is_ok answer }
     {
         match answer {
             Ok(()) => Ok(()),

@@ -1,4 +1,6 @@
-ghost use Rattle.std.specs.Prelude.{◌≤◌, IfOk, IfSome, length};
+ghost use Rattle.std.specs.Prelude.{◌≡◌, ◌≤◌, Err, false, IfErr, IfOk, IfSome, MatchResult, None, Ok, Some, length, if◌then◌else◌};
+ghost use Rattle.std.specs.IoError.{error_kind};
+ghost use Rattle.tb_main.specs.Errors.{is_absence};
 
 use std::alloc::Global;
 use std::fs::{Metadata, OpenFile};
@@ -49,23 +51,10 @@ pub fn stands<R: Files>(rt: &R, path: &str) -> io::Result<bool> {
     is_file(fs::metadata(rt, path))
 }
 
-/// Puts a file at a path, and the folders above it. A file that has these bytes already is left as it is.
-pub fn write_file<R: Files>(rt: &R, alloc: Global, path: &str, bytes: &[u8]) -> io::Result<()> {
-    if holds(rt, alloc, path, bytes) {
-        return Ok(());
-    }
+/// Puts a file at a path, and makes the folders above it.
+pub fn put_file<R: Files>(rt: &R, path: &str, bytes: &[u8]) -> io::Result<()> {
     make_folders(rt, path)?;
     fs::write(rt, path, bytes)
-}
-
-// Whether a file at a path is known to have these bytes and no more. One that cannot be read is not known to.
-fn holds<R: Files>(rt: &R, alloc: Global, path: &str, bytes: &[u8]) -> bool {
-    // One byte further than is wanted shows that there is more.
-    let most = (bytes.len() as u64).saturating_add(1);
-    match read_file(rt, alloc, path, most) {
-        Ok(Some(text)) => text.as_slice() == bytes,
-        Ok(None) | Err(_) => false,
-    }
 }
 
 /// Moves a file, and makes the folders above the target. Nothing is done where there is no file to move.
@@ -99,7 +88,9 @@ fn make_folders<R: Files>(rt: &R, path: &str) -> io::Result<()> {
 }
 
 // Whether what the system says of a path is that a file stands there.
-fn is_file(answer: io::Result<Metadata>) -> io::Result<bool> {
+fn is_file(answer: io::Result<Metadata>) -> io::Result<bool>
+    ensures { IfErr answer (λ error. result ≡ (if is_absence (error_kind error) then Ok false else Err error)) }
+{
     match unless_absent(answer)? {
         Some(metadata) => Ok(metadata.is_file()),
         None => Ok(false),
@@ -107,7 +98,9 @@ fn is_file(answer: io::Result<Metadata>) -> io::Result<bool> {
 }
 
 /// What the system answers, or nothing where it says that there is no such file or folder.
-pub fn unless_absent<T: Drop>(answer: io::Result<T>) -> io::Result<Option<T>> {
+pub fn unless_absent<T: Drop>(answer: io::Result<T>) -> io::Result<Option<T>>
+    ensures { MatchResult answer (λ value. result ≡ Ok (Some value)) (λ error. result ≡ (if is_absence (error_kind error) then Ok None else Err error)) }
+{
     match answer {
         Ok(value) => Ok(Some(value)),
         Err(error) if is_absence(&error) => Ok(None),
@@ -116,7 +109,9 @@ pub fn unless_absent<T: Drop>(answer: io::Result<T>) -> io::Result<Option<T>> {
 }
 
 // A name that the system does not take, as it is too long or no text, is that of no file.
-fn is_absence(error: &io::Error) -> bool {
+fn is_absence(error: &io::Error) -> bool
+    ensures { result ≡ is_absence (error_kind error.now) }
+{
     match error.kind() {
         ErrorKind::NotFound
         | ErrorKind::NotADirectory

@@ -1,3 +1,6 @@
+ghost use Rattle.std.specs.Prelude.{◌≡◌};
+ghost use Rattle.tb_main.specs.Folders.{is_left_out};
+
 use crate::files::{read_own_file, unless_absent};
 use std::alloc::{AllocError, Global};
 use std::fs::DirEntry;
@@ -147,9 +150,16 @@ fn is_reached<R: Files>(
 ) -> io::Result<bool> {
     match reach {
         Reach::All => Ok(true),
-        Reach::Sources if name == "node_modules" || name.starts_with('.') => Ok(false),
+        Reach::Sources if is_left_out(name) => Ok(false),
         Reach::Sources => Ok(!holds_info(rt, alloc, folder)?),
     }
+}
+
+// Whether a folder of this name is never one of sources.
+fn is_left_out(name: &str) -> bool
+    ensures { result ≡ is_left_out name.now }
+{
+    name == "node_modules" || name.starts_with('.')
 }
 
 fn holds_info<R: Files>(rt: &R, alloc: Global, folder: &Path) -> io::Result<bool> {

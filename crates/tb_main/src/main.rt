@@ -2,7 +2,10 @@
 #![tactic(auto)]
 
 ghost use Rattle.std.specs.Prelude.{◌≡◌, Some, None, IfSome, IsNone};
-ghost use Rattle.tb_main.specs.Complaints.{complaint_of};
+ghost use Rattle.std.specs.IoError.{error_kind};
+ghost use Rattle.std.specs.Process.{exit_status};
+ghost use Rattle.tb_text.specs.Statuses.{code_of};
+ghost use Rattle.tb_main.specs.Complaints.{complaint_of, unread_of};
 
 mod changes;
 mod disks;
@@ -11,6 +14,7 @@ mod feeds;
 mod files;
 mod gates;
 mod listings;
+mod places;
 mod sinks;
 mod trees;
 
@@ -49,7 +53,14 @@ fn main(rt: HostRuntime) -> ExitCode {
         (Err(error), _) => unread(&error),
         (Ok(_), Err(_)) => Status::NoMemory,
     };
-    if let Some(line) = complaint(&status) {
+    finish(&rt, &status)
+}
+
+// Says what is to be said of a run that ended so, and gives its exit status.
+fn finish<R: Eprint>(rt: &R, status: &Status) -> ExitCode
+    ensures { exit_status result ≡ code_of status.now }
+{
+    if let Some(line) = complaint(status) {
         // The exit status tells the same where nobody takes the line.
         let _ = rt.eprintln(line);
     }
@@ -66,7 +77,9 @@ fn words<R: Env + AllocGlobal>(rt: &R) -> io::Result<Vec<String>> {
 }
 
 // How a run ends whose words cannot be had. A word that is no text makes a faulty command line.
-fn unread(error: &io::Error) -> Status {
+fn unread(error: &io::Error) -> Status
+    ensures { result ≡ unread_of (error_kind error.now) }
+{
     match error.kind() {
         io::ErrorKind::OutOfMemory => Status::NoMemory,
         _ => Status::Usage(UsageFault::Unread),

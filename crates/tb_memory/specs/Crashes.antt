@@ -50,12 +50,16 @@ is_sync (Rename from to) = false
 is_sync (Remove path) = false
 is_sync Sync = true
 
--- a call leaves the log as it is, or its step is cut in its midst
+-- a call leaves the log as it is, or its step is cut in its midst, and then wanted for no memory
 abbrev pub StaysOrCuts : DiskState → DiskStep → DiskState → Type 0
-StaysOrCuts old step new = ((new.log ≡ old.log) × (new.cut ≡ old.cut)) ⊎ ((new.log ≡ old.log ++ step ∷ []) × (old.cut ≡ false) × (new.cut ≡ true))
+StaysOrCuts old step new = ((new.log ≡ old.log) × (new.cut ≡ old.cut)) ⊎ ((new.log ≡ old.log ++ step ∷ []) × (old.cut ≡ false) × (new.cut ≡ true) × (new.refused ≡ old.refused))
+
+-- a call took no step, cut none, and wanted for no memory
+abbrev pub Stands : DiskState → DiskState → Type 0
+Stands old new = (new.log ≡ old.log) × (new.cut ≡ old.cut) × (new.refused ≡ old.refused)
 
 -- a call takes a step, or fails: then nothing changes, but for a step at the stop. That one, unless it is a sync, is cut in
--- its midst, or memory was refused
+-- its midst, or memory was refused. Of a sync at the stop a clause of its own says that all stands
 pub record Takes (old : DiskState) (step : DiskStep) (new : DiskState) (failed : Bool) : Type 0 where
   pub done : IsFalse failed → (new.log ≡ old.log ++ step ∷ []) × (old.cut ≡ false) × (new.cut ≡ false)
   pub stopped : IsTrue failed → StaysOrCuts old step new

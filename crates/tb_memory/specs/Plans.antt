@@ -36,9 +36,11 @@ after_call plan failed = record {
   faults = if failed then plus plan.faults 1 else plan.faults;
 }
 
--- a call fails just where it is to fail, or memory was refused: the count of that rises by at most one, and in no other call
+-- a call fails just where it is to fail, or memory was refused: the count of that rises by at most one, and in no other call;
+-- of the calls that are to fail, the one at the stop alone may want for memory
 pub record FailsWhere (plan : Plan) (before now : ℕ) (failed : Bool) : Type 0 where
   pub later : before ≤ now
   pub once : now ≤ before + 1
   pub cause : IsTrue failed → IsTrue (is_due plan) ⊎ Rose before now
+  pub planned : IsTrue (is_due plan) → IsFalse (is_stop plan) → now ≡ before
   pub fine : IsFalse failed → IsFalse (is_due plan) × (now ≡ before)

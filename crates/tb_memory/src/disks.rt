@@ -1,10 +1,10 @@
-ghost use Rattle.std.specs.Prelude.{◌≡◌, ◌≢◌, ◌⊎◌, ◌∷◌, ◌++◌, [], ℕ, ◌<◌, ◌≤◌, ◌+◌, List, Some, None, take, true, false, if◌then◌else◌, IsTrue, IsFalse, IfOk, OnOk, OnErr, length};
+ghost use Rattle.std.specs.Prelude.{◌≡◌, ◌≢◌, ◌⊎◌, ◌∷◌, ◌++◌, [], ℕ, ◌<◌, ◌≤◌, ◌+◌, List, Some, None, Ok, take, true, false, if◌then◌else◌, IsTrue, IsFalse, IfOk, OnOk, OnErr, length};
 ghost use Rattle.std.specs.Option.{option_copied};
 ghost use Rattle.tb_text.specs.Counts.{plus};
 ghost use Rattle.tb_outside.specs.Causes.{Causes, Rose, has_failed, has_fault};
 ghost use Rattle.tb_outside.specs.Disk.{Same, SameBut, put_at, moved, AfterWrite, AfterRename, AfterRemove, ListsFolder};
 ghost use Rattle.tb_outside.specs.Moments.{Within, EachMoment, Elapses, IsImage};
-ghost use Rattle.tb_memory.specs.Crashes.{read_of, reads_of, left_of, left_steps, last_sync, halves, is_sync, IsFresh, StaysOrCuts, Takes, ListsAll};
+ghost use Rattle.tb_memory.specs.Crashes.{read_of, reads_of, left_of, left_steps, last_sync, halves, is_sync, IsFresh, Stands, StaysOrCuts, Takes, ListsAll};
 ghost use Rattle.tb_memory.specs.Plans.{is_due, is_stop, reaches, after_call, FailsWhere};
 ghost use Rattle.tb_memory.specs.Laws.{read_is_left, has_image};
 
@@ -149,6 +149,7 @@ impl MemDisk {
     // Does a step, or where the call is to fail, cuts it in its midst at the stop.
     fn take(&mut self, step: Result<DiskStep, NoMemory>) -> Result<(), Failed>
         ensures takes { (s : DiskStep) → IfOk step (λ made. made ≡ s) → Takes self.old s self.new (has_failed result) }
+        ensures sync { (step ≡ Ok DiskStep.Sync) → IsTrue (is_stop self.old.plan) → Stands self.old self.new }
         ensures exact { FailsWhere self.old.plan self.old.refused self.new.refused (has_failed result) }
         ensures plan { self.new.plan ≡ after_call self.old.plan (has_failed result) }
         ensures cause { Causes self.old.plan.faults self.new.plan.faults (has_failed result) }
@@ -207,6 +208,7 @@ impl MemDisk {
         requires { IsTrue (reaches self.old.plan.stop self.old.plan.calls) }
         ensures stays { (s : DiskStep) → IfOk step (λ made. made ≡ s) → StaysOrCuts self.old s self.new }
         ensures cuts { (s : DiskStep) → IfOk step (λ made. made ≡ s) → IsFalse (is_sync s) → IsTrue self.new.cut ⊎ Rose self.old.refused self.new.refused }
+        ensures sync { (step ≡ Ok DiskStep.Sync) → Stands self.old self.new }
         ensures later { self.old.refused ≤ self.new.refused }
         ensures once { self.new.refused ≤ self.old.refused + 1 }
         ensures plan { self.new.plan ≡ self.old.plan }
@@ -366,6 +368,7 @@ impl Disk for MemDisk {
         ensures exact { FailsWhere self.old.plan self.old.refused self.new.refused (has_failed result) }
         ensures plan { self.new.plan ≡ after_call self.old.plan (has_failed result) }
         ensures takes { Takes self.old DiskStep.Sync self.new (has_failed result) }
+        ensures stopped { IsTrue (is_stop self.old.plan) → Stands self.old self.new }
     {
         self.take(Ok(DiskStep::Sync))
     }

@@ -1,6 +1,6 @@
 -- The options: which are known, which values they take, and what is wrong in a value. The options and their forms are the TSConfig
 -- Reference's; which values are accepted is this project's own.
-use Rattle.std.specs.Prelude.{ℕ, ◌==◌, ◌++◌, Bool, true, false, not, if◌then◌else◌, nat_lt, List, [], ◌∷◌, map, filter, count_by, Option, Some, None, is_some, is_none, option_map}
+use Rattle.std.specs.Prelude.{ℕ, ◌==◌, ◌++◌, Bool, true, false, not, if◌then◌else◌, nat_lt, List, [], ◌∷◌, map, filter, count_by, Option, Some, None, is_some, is_none, option_map, codes}
 use Rattle.std.specs.List.{find, flat_map, list_any}
 use Rattle.std.specs.Str.{bytes_eq, str_eq_ignore_ascii_case}
 use Rattle.serde_json.specs.Data.{Data, Members, no_members, member}
@@ -11,7 +11,6 @@ use Rattle.tb_options.specs.declared.texts.TextOf.{TextOf}
 use Rattle.tb_options.specs.declared.texts.TextOf.TheVariants as kind
 use Rattle.tb_options.specs.declared.options.Rule.{Rule}
 use Rattle.tb_options.specs.declared.options.Rule.TheVariants as rule
-use Rattle.tb_options.specs.declared.options.TheConstants.{OPTIONS, MODULES, RESOLUTIONS, TARGETS}
 
 -- ---- the table
 
@@ -24,19 +23,40 @@ abbrev pub rule_in : List Row → List ℕ → Option Rule
 rule_in rows name = option_map (λ row. row.1) (find (λ row. list_any (bytes_eq name) row.0) rows)
 
 abbrev pub rows : List Row
-rows = map (λ row. (map (λ option. option.now) row.0.now, row.1)) OPTIONS
+rows =
+    (codes "strict" ∷ codes "noImplicitAny" ∷ codes "strictNullChecks" ∷ codes "strictFunctionTypes" ∷
+        codes "strictBindCallApply" ∷ codes "strictPropertyInitialization" ∷ codes "noImplicitThis" ∷
+        codes "useUnknownInCatchVariables" ∷ codes "alwaysStrict" ∷ codes "isolatedDeclarations" ∷
+        codes "isolatedModules" ∷ codes "verbatimModuleSyntax" ∷ codes "declaration" ∷ codes "incremental" ∷ [], rule.True)
+    ∷ (codes "noEmitOnError" ∷ codes "noEmit" ∷ codes "emitDeclarationOnly" ∷ codes "allowJs" ∷
+        codes "checkJs" ∷ codes "noUncheckedIndexedAccess" ∷ codes "exactOptionalPropertyTypes" ∷ [], rule.False)
+    ∷ (codes "composite" ∷ [], rule.TrueOrFalse)
+    ∷ (codes "module" ∷ [], rule.Module)
+    ∷ (codes "moduleResolution" ∷ [], rule.Resolution)
+    ∷ (codes "target" ∷ [], rule.Target)
+    ∷ (codes "outDir" ∷ codes "rootDir" ∷ [], rule.PathText)
+    ∷ (codes "paths" ∷ [], rule.PathLists)
+    ∷ (codes "skipLibCheck" ∷ codes "skipDefaultLibCheck" ∷ codes "esModuleInterop" ∷
+        codes "allowSyntheticDefaultImports" ∷ codes "lib" ∷ codes "types" ∷ codes "sourceMap" ∷
+        codes "inlineSources" ∷ codes "declarationMap" ∷ codes "forceConsistentCasingInFileNames" ∷
+        codes "resolveJsonModule" ∷ codes "moduleDetection" ∷ codes "jsx" ∷ codes "noUnusedLocals" ∷
+        codes "noUnusedParameters" ∷ codes "noImplicitReturns" ∷ codes "noImplicitOverride" ∷
+        codes "noFallthroughCasesInSwitch" ∷ codes "allowUnreachableCode" ∷ codes "allowUnusedLabels" ∷
+        codes "removeComments" ∷ codes "importHelpers" ∷ codes "newLine" ∷ codes "useDefineForClassFields" ∷
+        codes "noErrorTruncation" ∷ codes "pretty" ∷ codes "listFiles" ∷ [], rule.Ignored)
+    ∷ []
 
 abbrev pub rule_of : List ℕ → Option Rule
 rule_of = rule_in rows
 
 abbrev pub modules : List (List ℕ)
-modules = map (λ text. text.now) MODULES
+modules = codes "es6" ∷ codes "es2015" ∷ codes "es2020" ∷ codes "es2022" ∷ codes "esnext" ∷ codes "preserve" ∷ []
 
 abbrev pub resolutions : List (List ℕ)
-resolutions = map (λ text. text.now) RESOLUTIONS
+resolutions = codes "bundler" ∷ []
 
 abbrev pub targets : List (List ℕ)
-targets = map (λ text. text.now) TARGETS
+targets = codes "es2020" ∷ codes "es2021" ∷ codes "es2022" ∷ codes "es2023" ∷ codes "es2024" ∷ codes "esnext" ∷ []
 
 -- ---- the values
 

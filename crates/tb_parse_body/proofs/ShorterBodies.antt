@@ -141,12 +141,11 @@ shorter_lacks_shape xs count n f = record {
       f.none d.0 (c.0, d.5) (d.1 ++ zs) c.1 (v ∙ ap (λ u. u ++ zs) d.7 ∙ append_assoc d.0 d.1 zs);
 }
 
-pub shorter_lacks_block : {x : Deep TypeExpr} {below : List Sym} (xs : List Sym) (count n : ℕ) → Found (CountedUpto count n) Never xs x below → Lacks (BlockUpto g.a_body n) below → Lacks (ShorterUpto count n) xs
-shorter_lacks_block {below = below} xs count n f h = record {
+pub shorter_lacks_block : (xs pre below : List Sym) (count n : ℕ) → xs ≡ pre ++ below → length pre ≡ count → Lacks (BlockUpto g.a_body n) below → Lacks (ShorterUpto count n) xs
+shorter_lacks_block xs pre below count n e h f = record {
   none = λ a y zs d v.
-      let c = counted d.2 d.4 d.3 count n d.10 d.8 d.9 (omega (arith, d.12, d.13)) in
-      let i = exact f d.0 (c.0, d.5) (d.1 ++ zs) c.1 (v ∙ ap (λ u. u ++ zs) d.7 ∙ append_assoc d.0 d.1 zs) (never (d.1 ++ zs)) in
-      h.none d.1 (y.0.1, d.6) zs (d.11, omega (arith, d.12, d.13)) i.1;
+      let i = same_front pre d.0 below (d.1 ++ zs) (sym e ∙ v ∙ ap (λ u. u ++ zs) d.7 ∙ append_assoc d.0 d.1 zs) (h ∙ sym d.9) in
+      f.none d.1 (y.0.1, d.6) zs (d.11, omega (arith, d.12, d.13)) i.1;
 }
 
 pub shorter_found : {x : Deep TypeExpr} {b : Deep Block} {below ys : List Sym} (xs pre behind : List Sym) (s : List ℕ) (at count n : ℕ) → Found (CountedUpto count n) Never xs x below

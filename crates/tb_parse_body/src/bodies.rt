@@ -67,10 +67,10 @@ impl<
         if !self.reader.is_word(end - 1, Word::Readonly) {
             return Ok(None);
         }
-        let Some(shape) = shape_before(self.reader, at, end, limit)? else {
+        let Some(block) = self.block_inside(end, BODY, limit)? else {
             return Ok(None);
         };
-        let Some(block) = self.block_inside(end, BODY, limit)? else {
+        let Some(shape) = shape_before(self.reader, at, end, limit)? else {
             return Ok(None);
         };
         Ok(Some(Front {

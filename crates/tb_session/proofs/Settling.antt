@@ -1,5 +1,5 @@
 -- The headline from how a run ended.
-use Rattle.std.proofs.Common.{◌≡◌, ℕ, ◌<◌, Bool, true, false, List, [], ◌∷◌, ◌++◌, take, refl, sym, ap, ◌∙◌, subst, arith, IsTrue, inl, inr}
+use Rattle.std.proofs.Common.{◌≡◌, ℕ, ◌<◌, Bool, true, false, List, [], ◌∷◌, ◌++◌, ◌⊎◌, take, refl, sym, ap, ◌∙◌, subst, arith, IsTrue, inl, inr}
 use Rattle.std.specs.Prelude.{Option, Some, None, Contains, slice_index_or, zero, suc}
 use Rattle.std.specs.List.{AllByRecursion}
 use Rattle.std.specs.List.Sorted.{IsStrictlyIncreasing}
@@ -7,8 +7,11 @@ use Rattle.std.proofs.lemmas.List.{append-nil}
 use Rattle.tb_text.specs.declared.statuses.Status.TheVariants as status
 use Rattle.tb_text.specs.declared.statuses.Which.{Which}
 use Rattle.tb_text.specs.declared.statuses.Which.TheVariants.{Disk, Sink}
+use Rattle.tb_text.specs.declared.statuses.Which.TheVariants as object
 use Rattle.tb_outside.specs.Causes.{Rose}
-use Rattle.tb_outside.specs.Disk.{Files, read_after_all}
+use Rattle.tb_outside.specs.Disk.{Files, Outcomes, read_after_all}
+use Rattle.tb_outside.specs.Laws.{just_always}
+use Rattle.tb_outside.specs.Moments.{Within, Always}
 use Rattle.tb_plan.specs.Plans.{plan_of}
 use Rattle.tb_session.specs.Blamed.{Blamed}
 use Rattle.tb_session.specs.Builds.{Clean, IsClean, IsNoOutput, checks_of, builds_of}
@@ -20,6 +23,7 @@ use Rattle.tb_session.specs.Publishes.{Answer, Publishes, Seen, steps_of}
 use Rattle.tb_session.specs.Ready.{IsReady}
 use Rattle.tb_session.specs.Reports.{status_of}
 use Rattle.tb_session.specs.declared.publishes.Publication.{Publication}
+use Rattle.tb_session.specs.declared.publishes.Script.{Script}
 use Rattle.tb_session.proofs.Ending.{unsettled_not_built, unsettled_outside}
 use Rattle.tb_session.proofs.OneBuild.{one_build}
 use Rattle.tb_session.proofs.Readied.{is_clean, settles, all_read, outside, untouched, blamed, failed_elsewhere}
@@ -185,6 +189,70 @@ module _ (texts : Tree) (roots : List (List ℕ)) (verbose disk_tells sink_tells
       | inr sink ↦ ap (λ (a : Answer). a.settled) sink.ended
     ]
   ]
+
+  -- what is counted there, but for a sink that failed
+  pub uncounted : (IsSettled answer.status → ⊥) → (answer.status ≡ status.Outside Sink None → ⊥) → (answer.checked ≡ 0) × (answer.built ≡ 0)
+  uncounted ends no_sink = elim by [
+    | inl done ↦ absurd (ends (subst IsSettled (sym (ap (λ (a : Answer). a.status) done.ended)) (publication_settles texts roots verbose p ready)))
+    | inr other ↦ elim other [
+      | inl disk ↦ (ap (λ (a : Answer). a.checked) disk.ended, ap (λ (a : Answer). a.built) disk.ended)
+      | inr sink ↦ absurd (no_sink (ap (λ (a : Answer). a.status) sink.ended))
+    ]
+  ]
+
+  -- where the sink failed, all was written
+  pub unprinted : answer.status ≡ status.Outside Sink None → (clean : Clean) → IsClean texts roots clean → (answer.checked ≡ checks_of clean) × (answer.built ≡ builds_of clean)
+  unprinted e clean is =
+      let same : clean ≡ ready.clean = one_build texts roots clean ready.clean is (is_clean texts roots ready.clean p.scripts ready.writes) in
+      elim by [
+        | inl done ↦ absurd (unsettled_outside answer.status Sink None e (subst IsSettled (sym (ap (λ (a : Answer). a.status) done.ended)) (publication_settles texts roots verbose p ready)))
+        | inr other ↦ elim other [
+          | inl disk ↦ absurd (no_sink disk.config (sym (ap (λ (a : Answer). a.status) disk.ended) ∙ e))
+          | inr sink ↦ (
+            ap (λ (a : Answer). a.checked) sink.ended ∙ ready.checked ∙ sym (ap checks_of same),
+            ap (λ (a : Answer). a.built) sink.ended ∙ ready.built ∙ sym (ap builds_of same),
+          )
+        ]
+      ]
+    where
+      no_sink : (config : List ℕ) → status.Outside Disk (Some config) ≡ status.Outside Sink None → ⊥
+      no_sink config e = cc
+
+  -- what a crash leaves has all outputs
+  pub stays : IsTrue disk_tells → IsSettled answer.status → (left : Outcomes)
+      → (((config : List ℕ) → answer.status ≡ status.Outside Disk (Some config) → ⊥) → (p.scripts ≡ []) ⊎ Within (λ q content. content ≡ new.files q) left)
+      → (clean : Clean) → IsClean texts roots clean → Always (λ files. HasOutputs files clean) left
+  stays told settled left synced clean is =
+      let made : Clean = ready.clean in
+      let same : clean ≡ made = one_build texts roots clean made is (is_clean texts roots made p.scripts ready.writes) in
+      subst (λ (c : Clean). Always (λ (files : Files). HasOutputs files c) left) (sym same) (elim (synced (λ config e. unsettled_outside answer.status Disk (Some config) e settled)) [
+        | inl none ↦ λ image is_left.
+            subst (λ (scripts : List Script). AllByRecursion (λ (output : List ℕ × List ℕ). read_after_all (steps_of scripts) image output.0 ≡ Some output.1) made.outputs) none
+            (all_read texts roots made p.scripts ready.writes image)
+        | inr just ↦ just_always (λ (files : Files). HasOutputs files made) new.files left just (elim by [
+          | inl done ↦ outputs_on (read_after_all (steps_of p.scripts) old.files) new.files made.outputs (done.files told) (all_read texts roots made p.scripts ready.writes old.files)
+          | inr other ↦ elim other [
+            | inl disk ↦ absurd (unsettled_outside answer.status Disk (Some disk.config) (ap (λ (a : Answer). a.status) disk.ended) settled)
+            | inr sink ↦ absurd (unsettled_outside answer.status Sink None (ap (λ (a : Answer). a.status) sink.ended) settled)
+          ]
+        ])
+      ])
+
+  -- the tree is not read any more
+  pub not_the_tree : answer.status ≡ status.Outside object.Tree None → ⊥
+  not_the_tree e = elim by [
+    | inl done ↦ unsettled_outside answer.status object.Tree None e (subst IsSettled (sym (ap (λ (a : Answer). a.status) done.ended)) (publication_settles texts roots verbose p ready))
+    | inr other ↦ elim other [
+      | inl disk ↦ no_disk disk.config (sym (ap (λ (a : Answer). a.status) disk.ended) ∙ e)
+      | inr sink ↦ no_sink (sym (ap (λ (a : Answer). a.status) sink.ended) ∙ e)
+    ]
+  ]
+    where
+      no_disk : (config : List ℕ) → status.Outside Disk (Some config) ≡ status.Outside object.Tree None → ⊥
+      no_disk config e = cc
+
+      no_sink : status.Outside Sink None ≡ status.Outside object.Tree None → ⊥
+      no_sink e = cc
 
   -- where nothing is written
   kept_here : IsTrue disk_tells → (path : List ℕ) → IsNoOutput ready.clean path → new.files path ≡ old.files path

@@ -1,7 +1,8 @@
 -- What is written is read, and nothing else is changed.
-use Rattle.std.proofs.Common.{◌≡◌, ◌≢◌, ◌⊎◌, inl, inr, ℕ, suc, ◌<◌, List, [], ◌∷◌, ◌++◌, map, flat_map, refl, sym, ap, ◌∙◌, subst, codes, arith, Bool, true, false, IsTrue}
-use Rattle.std.specs.Prelude.{All, Option, Some, None, slice_get}
+use Rattle.std.proofs.Common.{◌≡◌, ◌≢◌, ◌⊎◌, inl, inr, ℕ, zero, suc, ◌<◌, List, [], ◌∷◌, ◌++◌, map, flat_map, take, take_all, get_or, refl, sym, ap, ◌∙◌, subst, codes, arith, Bool, true, false, IsTrue}
+use Rattle.std.specs.Prelude.{All, Option, Some, None, cond, slice_get}
 use Rattle.std.specs.List.{AllByRecursion}
+use Rattle.std.specs.Str.{bytes_eq}
 use Rattle.std.specs.Option.{option_to_list}
 use Rattle.std.proofs.lemmas.Bool.{true≢false}
 use Rattle.std.proofs.lemmas.List.Elements.{All-from_recursion, recursion_from_All}
@@ -11,17 +12,18 @@ use Rattle.tb_outside.specs.Disk.{Files, put_at, read_after_all}
 use Rattle.tb_outside.specs.Laws.{put_here, put_other, which_path}
 use Rattle.tb_outside.specs.Playing.{IsElsewhere}
 use Rattle.tb_outside.specs.declared.disks.DiskStep.{DiskStep}
+use Rattle.tb_outside.specs.declared.disks.DiskStep.TheVariants.{Sync}
 use Rattle.tb_plan.specs.Folders.{are_shared, is_shared}
 use Rattle.tb_plan.specs.Laws.{PlanOk}
 use Rattle.tb_plan.specs.Plans.{plan_of, Sound}
 use Rattle.tb_plan.specs.declared.plans.Project.{Project}
-use Rattle.tb_session.specs.Blamed.{Blamed}
+use Rattle.tb_session.specs.Blamed.{Blamed, WrittenUpTo}
 use Rattle.tb_session.specs.Builds.{Pair, pairs_by, pairs_of, pairs_in, js_output, declaration_output, outputs_of, info_output, outputs_in, project_outputs}
 use Rattle.tb_face.specs.Outputs.{stem_text}
 use Rattle.tb_session.specs.Generations.{Tree}
 use Rattle.tb_session.specs.Plans.{IsOutside}
 use Rattle.tb_session.specs.Publishes.{FailsAt, steps_of}
-use Rattle.tb_session.specs.Scripts.{write_of, IsScript, AreScripts}
+use Rattle.tb_session.specs.Scripts.{write_of, in_order, IsScript, AreScripts}
 use Rattle.tb_session.specs.Sources.{Reading, Plain, Faulty, ReadsAs, Source, Build, IsSource, AreSources, HasSources, IsBuild, projects_in}
 use Rattle.tb_session.specs.declared.publishes.Script.{Script}
 use Rattle.tb_session.proofs.Members.{In, in_left, in_right, in_append, in_flat, flat_in, in_map, all_by, each_of, in_permuted, in_from, in_back}
@@ -402,6 +404,38 @@ parts_apart (b ∷ front) rest apart o p i j e = elim (in_append (project_output
   | inr a ↦ parts_apart front rest apart.1 o p a j e
 ]
 
+-- ---- what it wrote
+
+-- writes to other paths, and of the same bytes, part no files that read alike at a path
+alike : (outputs : List Output) (f h : Files) (path : List ℕ) → f path ≡ h path → read_after_all (writes outputs) f path ≡ read_after_all (writes outputs) h path
+alike [] f h path e = e
+alike (o ∷ outputs) f h path e =
+    alike outputs (put_at o.0 (Some o.1) f) (put_at o.0 (Some o.1) h) path (ap (λ (content : Option (List ℕ)). cond (bytes_eq path o.0) (Some o.1) content) e)
+
+take_writes : (outputs : List Output) (n : ℕ) → take n (writes outputs) ≡ writes (take n outputs)
+take_writes [] n = take_all n [] (omega arith) ∙ ap writes (sym (take_all n [] (omega arith)))
+take_writes (o ∷ outputs) zero = refl
+take_writes (o ∷ outputs) (suc n) = ap (λ (ss : List DiskStep). write_of o ∷ ss) (take_writes outputs n)
+
+elsewhere_at : (outputs : List Output) (n : ℕ) (path : List ℕ) → ((o : Output) → slice_get outputs n ≡ Some o → path ≢ o.0) → IsElsewhere path (get_or (writes outputs) n Sync)
+elsewhere_at [] n path apart = tt
+elsewhere_at (o ∷ outputs) zero path apart = apart o refl
+elsewhere_at (o ∷ outputs) (suc n) path apart = elsewhere_at outputs n path apart
+
+-- no output of a project before it lies in its folder
+front_apart : (front : List Build) (build : Build) (back : List Build) (folder path : List ℕ) → build.project.setting.folder ≡ Some folder → Apart (front ++ build ∷ back) → is_inside folder path ≡ true
+    → (o : Output) → In (all_outputs front) o → path ≡ o.0 → ⊥
+front_apart [] build back folder path placed apart within o i e = absurd i
+front_apart (b ∷ front) build back folder path placed apart within o i e = elim (in_append (project_outputs b) (all_outputs front) o i) [
+  | inl a ↦
+      let one = in_own b b.project.setting.folder o a in
+      not_both one.0 folder path
+      (shared_by b.project.setting.folder build.project.setting.folder one.0 folder one.1 placed
+      (each_of (λ (other : Build). are_shared b.project.setting.folder other.project.setting.folder ≡ false) (front ++ build ∷ back) build apart.0 (in_right front (build ∷ back) build (inl refl))))
+      (ap (is_inside one.0) e ∙ kind_inside one.0 b o one.2) within
+  | inr a ↦ front_apart front build back folder path placed apart.1 within o a e
+]
+
 -- what is no output was not touched
 pub failed_elsewhere : (builds : List Build) (scripts : List Script) → AreScripts builds scripts → (disk_tells : Bool) (config : List ℕ) (old new : Files) → IsTrue disk_tells → FailsAt disk_tells scripts config old new
     → (path : List ℕ) → ((o : Output) → In (all_outputs builds) o → path ≢ o.0) → new path ≡ old path
@@ -435,6 +469,20 @@ module _ (texts : Tree) (roots : List (List ℕ)) (builds : List Build) (scripts
         done = all_by (λ (o : Output). new o.0 ≡ Some o.1) (all_outputs s.front)
             (λ o i. f.reads told o.0 (elsewhere (project_outputs s.build) f.script.steps o.0 one (λ p j e. parts_apart s.front last apart o p i (in_left (project_outputs s.build) (all_outputs s.back) p j) e))
             ∙ all_read (all_outputs s.front) (steps_of f.before) old some (λ p q j k e. agrees p q (flat_left project_outputs s.front last p j) (flat_left project_outputs s.front last q k) e) o i);
+        so_far =
+            let n : ℕ = (f.stops told).0 in
+            let outputs : List Output = in_order s.folder s.build s.is.ordered in
+            record {
+              ordered = s.is.ordered;
+              same = s.is.same;
+              ascending = s.is.ascending;
+              place = n;
+              reads = λ path within other.
+                  (f.stops told).1 path (subst (λ (ss : List DiskStep). IsElsewhere path (get_or ss n Sync)) (sym s.is.are) (elsewhere_at outputs n path other))
+                  ∙ ap (λ (ss : List DiskStep). read_after_all ss (read_after_all (steps_of f.before) old) path) (ap (take n) s.is.are ∙ take_writes outputs n)
+                  ∙ alike (take n outputs) (read_after_all (steps_of f.before) old) old path
+                  (untouched (all_outputs s.front) (steps_of f.before) old path some (λ o i e. front_apart s.front s.build s.back s.folder path s.placed apart within o i e));
+            };
         others = λ path out.
             let differs : (o : Output) → In (all_outputs (s.front ++ s.build ∷ [])) o → path ≢ o.0 = outside (s.front ++ s.build ∷ []) path out in
             f.reads told path (elsewhere (project_outputs s.build) f.script.steps path one (λ o i. differs o (flat_right project_outputs s.front (s.build ∷ []) o (in_left (project_outputs s.build) [] o i))))

@@ -1,5 +1,5 @@
 -- How a publication ends: what the disk reads and what the sink took, before and after. This project's own.
-use Rattle.std.specs.Prelude.{◌≡◌, ◌⊎◌, ◌++◌, ℕ, Bool, IsTrue, List, [], ◌∷◌, All, flat_map, take, Some, None}
+use Rattle.std.specs.Prelude.{◌≡◌, ◌⊎◌, ◌++◌, ℕ, Bool, IsTrue, List, [], ◌∷◌, All, flat_map, take, get_or, Some, None}
 use Rattle.tb_text.specs.declared.statuses.Status.{Status}
 use Rattle.tb_text.specs.declared.statuses.Status.TheVariants as status
 use Rattle.tb_text.specs.declared.statuses.Which.TheVariants.{Disk, Sink}
@@ -7,6 +7,7 @@ use Rattle.tb_outside.specs.Causes.{Rose}
 use Rattle.tb_outside.specs.Disk.{Files, Same, read_after_all}
 use Rattle.tb_outside.specs.Playing.{IsElsewhere}
 use Rattle.tb_outside.specs.declared.disks.DiskStep.{DiskStep}
+use Rattle.tb_outside.specs.declared.disks.DiskStep.TheVariants.{Sync}
 use Rattle.tb_session.specs.declared.publishes.Publication.{Publication}
 use Rattle.tb_session.specs.declared.publishes.Script.{Script}
 
@@ -37,6 +38,9 @@ pub record FailsAt (disk_tells : Bool) (scripts : List Script) (config : List �
   pub whole : scripts ≡ before ++ script ∷ after
   pub named : config ≡ script.config
   pub reads : IsTrue disk_tells → (path : List ℕ) → All (IsElsewhere path) script.steps → new path ≡ read_after_all (steps_of before) old path
+  -- of its own steps those before one place were done, and every path that the one at that place does not name reads so
+  pub stops : IsTrue disk_tells → (n : ℕ) × ((path : List ℕ) → IsElsewhere path (get_or script.steps n Sync)
+      → new path ≡ read_after_all (take n script.steps) (read_after_all (steps_of before) old) path)
 
 -- all was written, and the report was printed
 pub record Settles (disk_tells sink_tells : Bool) (p : Publication) (old new : Seen) (answer : Answer) : Type 0 where

@@ -11,13 +11,17 @@ use Rattle.tb_session.specs.declared.publishes.Script.{Script}
 abbrev pub write_of : List ℕ × List ℕ → DiskStep
 write_of output = Write output.0 output.1
 
+-- its outputs in the order in which they are written, of pairs in the order of their stems: each JavaScript before its declaration, and the info last
+abbrev pub in_order : List ℕ → Build → List Pair → List (List ℕ × List ℕ)
+in_order folder build ordered = flat_map (outputs_of folder) ordered ++ info_output folder build ∷ []
+
 -- the steps of one project with an output folder
 pub record IsScript (folder : List ℕ) (build : Build) (steps : List DiskStep) : Type 0 where
   -- the outputs by their stems
   pub ordered : List Pair
   pub same : IsPermutation (pairs_in build) ordered
   pub ascending : IsSortedByKey (λ pair. pair.stem) bytes_cmp ordered
-  pub are : steps ≡ map write_of (flat_map (outputs_of folder) ordered ++ info_output folder build ∷ [])
+  pub are : steps ≡ map write_of (in_order folder build ordered)
 
 -- the scripts of all projects that have an output folder, in plan order
 pub data AreScripts : List Build → List Script → Type 0 where

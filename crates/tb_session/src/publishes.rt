@@ -1,6 +1,7 @@
-ghost use Rattle.std.specs.Prelude.{◌≡◌, [], IfErr, IsTrue, OnOk, is_err};
+ghost use Rattle.std.specs.Prelude.{◌≡◌, ◌⊎◌, ℕ, [], List, Some, IfErr, IsTrue, OnOk, is_err};
 ghost use Rattle.tb_outside.specs.Causes.{Causes};
 ghost use Rattle.tb_outside.specs.Disk.{Same, read_after_all};
+ghost use Rattle.tb_outside.specs.Moments.{Within};
 ghost use Rattle.tb_session.specs.Publishes.{FailsAt, Publishes, steps_of};
 
 use crate::ended::Ended;
@@ -50,6 +51,7 @@ pub fn stopped<D, F, O>(alloc: Global, status: Status, disk: D, feed: F, out: O)
 // Does all scripts in order, and has what was written stay. Where a call fails, the config of its project is told.
 fn write_all<D: Disk>(disk: &mut D, scripts: List<Script>) -> Result<(), Path>
     ensures done { IsTrue D.tells → OnOk result (Same (read_after_all (steps_of scripts) (D.reads disk.old)) (D.reads disk.new)) }
+    ensures stays { IsTrue D.tells → OnOk result ((scripts ≡ []) ⊎ Within (λ q content. content ≡ D.reads disk.new q) (D.left disk.new (D.clock disk.new))) }
     ensures failed { IfErr result (λ config. FailsAt D.tells scripts config (D.reads disk.old) (D.reads disk.new)) }
     ensures cause { Causes (D.count disk.old) (D.count disk.new) (is_err result) }
 {
@@ -82,6 +84,8 @@ pub fn publish<D: Disk, F, O: Sink>(
         (record { files = D.reads disk; printed = O.taken out; disk_count = D.count disk; sink_count = O.count out })
         (record { files = D.reads result.disk; printed = O.taken result.out; disk_count = D.count result.disk; sink_count = O.count result.out })
         (record { status = result.status; settled = result.settled; checked = result.checked; built = result.built }) }
+    ensures stays { IsTrue D.tells → ((config : List ℕ) → result.status ≡ Status.Outside Which.Disk (Some config) → ⊥)
+        → (publication.scripts ≡ []) ⊎ Within (λ q content. content ≡ D.reads result.disk q) (D.left result.disk (D.clock result.disk)) }
     ensures feed { result.feed ≡ feed }
 {
     let Publication {

@@ -1,14 +1,15 @@
-ghost use Rattle.std.specs.Prelude.{◌≡◌, [], ℕ, List, IsTrue, Some, Ok, map, string_bytes, true, false};
+ghost use Rattle.std.specs.Prelude.{◌≡◌, [], ℕ, List, IsTrue, Some, None, Ok, map, string_bytes, true, false};
+ghost use Rattle.tb_outside.specs.Moments.{Always};
 ghost use Rattle.tb_plan.specs.Plans.{plan_of};
 ghost use Rattle.tb_words.specs.Commands.{command_of};
 ghost use Rattle.tb_words.specs.declared.commands.Command.{Command};
 ghost use Rattle.tb_session.specs.Blamed.{Blamed};
-ghost use Rattle.tb_session.specs.Builds.{Clean, IsClean, IsNoOutput};
+ghost use Rattle.tb_session.specs.Builds.{Clean, IsClean, IsNoOutput, checks_of, builds_of};
 ghost use Rattle.tb_session.specs.Commands.{are_served, is_served};
 ghost use Rattle.tb_session.specs.Ends.{Ends, IsSettled};
 ghost use Rattle.tb_session.specs.Served.{EndsServed};
 ghost use Rattle.tb_session.specs.Generations.{opening};
-ghost use Rattle.tb_session.specs.Headline.{Headline, Premises, NotServed};
+ghost use Rattle.tb_session.specs.Headline.{Headline, HasOutputs, Premises, NotServed};
 ghost use Rattle.tb_session.specs.Plans.{IsOutside};
 
 use crate::ended::Ended;
@@ -55,8 +56,14 @@ fn run_command<T: Tree, D: Disk, F: Feed, O: Sink>(
     ensures not_built { IsTrue T.tells → result.status ≡ Status.NotBuilt → NotServed (opening (T.texts tree.old)) command.roots }
     ensures unserved { IsTrue T.tells → NotServed (opening (T.texts tree.old)) command.roots → (result.disk ≡ disk) × (result.out ≡ out) }
     ensures untouched { result.status ≡ Status.NotBuilt → (result.disk ≡ disk) × (result.out ≡ out) × (result.settled ≡ []) × (result.checked ≡ 0) × (result.built ≡ 0) }
+    ensures opening { result.status ≡ Status.Outside Which.Tree None → (result.disk ≡ disk) × (result.out ≡ out) × (result.settled ≡ []) × (result.checked ≡ 0) × (result.built ≡ 0) }
     ensures feed { result.feed ≡ feed }
     ensures unsettled { (IsSettled result.status → ⊥) → result.settled ≡ [] }
+    ensures uncounted { (IsSettled result.status → ⊥) → (result.status ≡ Status.Outside Which.Sink None → ⊥) → (result.checked ≡ 0) × (result.built ≡ 0) }
+    ensures unprinted { IsTrue T.tells → result.status ≡ Status.Outside Which.Sink None → (clean : Clean) → IsClean (opening (T.texts tree.old)) command.roots clean
+        → (result.checked ≡ checks_of clean) × (result.built ≡ builds_of clean) }
+    ensures stays { IsTrue T.tells → IsTrue D.tells → IsSettled result.status → (clean : Clean) → IsClean (opening (T.texts tree.old)) command.roots clean
+        → Always (λ files. HasOutputs files clean) (D.left result.disk (D.clock result.disk)) }
     ensures tree { IsTrue T.tells → T.texts tree.new ≡ T.texts tree.old }
     ensures elsewhere { IsTrue T.tells → IsTrue D.tells → (path : List ℕ) → IsOutside (plan_of (opening (T.texts tree.old)) command.roots) path → D.reads result.disk path ≡ D.reads disk path }
     ensures kept { IsTrue T.tells → IsTrue D.tells → (clean : Clean) → IsClean (opening (T.texts tree.old)) command.roots clean → (path : List ℕ) → IsNoOutput clean path → D.reads result.disk path ≡ D.reads disk path }
@@ -120,9 +127,22 @@ pub fn run_alone<T: Tree, D: Disk, F: Feed, O: Sink>(
         → (result.disk ≡ disk) × (result.feed ≡ feed) × (result.out ≡ out) }
     ensures untouched { result.status ≡ Status.NotBuilt → (result.disk ≡ disk) × (result.feed ≡ feed) × (result.out ≡ out) }
     ensures nothing { result.status ≡ Status.NotBuilt → (result.settled ≡ []) × (result.checked ≡ 0) × (result.built ≡ 0) }
+    // Where the tree failed, nothing else was touched.
+    ensures opening { result.status ≡ Status.Outside Which.Tree None
+        → (result.disk ≡ disk) × (result.feed ≡ feed) × (result.out ≡ out) × (result.settled ≡ []) × (result.checked ≡ 0) × (result.built ≡ 0) }
     // Without `--watch` the feed is not asked, and nothing is settled where the run does not settle.
     ensures unasked { (command : Command) → command_of (map string_bytes words.now) ≡ Ok command → command.watch ≡ false → result.feed ≡ feed }
     ensures unsettled { (command : Command) → command_of (map string_bytes words.now) ≡ Ok command → command.watch ≡ false → (IsSettled result.status → ⊥) → result.settled ≡ [] }
+    // Where it stops before all is written, nothing is counted; where the sink fails after that, all that was written is.
+    ensures uncounted { (command : Command) → command_of (map string_bytes words.now) ≡ Ok command → command.watch ≡ false → (IsSettled result.status → ⊥)
+        → (result.status ≡ Status.Outside Which.Sink None → ⊥) → (result.checked ≡ 0) × (result.built ≡ 0) }
+    ensures unprinted { IsTrue T.tells → (command : Command) → command_of (map string_bytes words.now) ≡ Ok command → command.watch ≡ false
+        → result.status ≡ Status.Outside Which.Sink None → (clean : Clean) → IsClean (opening (T.texts tree.old)) command.roots clean
+        → (result.checked ≡ checks_of clean) × (result.built ≡ builds_of clean) }
+    // Where it settles, a crash then leaves all outputs.
+    ensures stays { IsTrue T.tells → IsTrue D.tells → (command : Command) → command_of (map string_bytes words.now) ≡ Ok command → command.watch ≡ false
+        → IsSettled result.status → (clean : Clean) → IsClean (opening (T.texts tree.old)) command.roots clean
+        → Always (λ files. HasOutputs files clean) (D.left result.disk (D.clock result.disk)) }
     ensures tree { IsTrue T.tells → T.texts tree.new ≡ T.texts tree.old }
     // No path outside the output folders of the plan reads otherwise, whatever the status is.
     ensures elsewhere { IsTrue T.tells → IsTrue D.tells → (command : Command) → command_of (map string_bytes words.now) ≡ Ok command
@@ -196,9 +216,22 @@ pub fn run<
         → (result.disk ≡ disk) × (result.feed ≡ feed) × (result.out ≡ out) }
     ensures untouched { result.status ≡ Status.NotBuilt → (result.disk ≡ disk) × (result.feed ≡ feed) × (result.out ≡ out) }
     ensures nothing { result.status ≡ Status.NotBuilt → (result.settled ≡ []) × (result.checked ≡ 0) × (result.built ≡ 0) }
+    // Where the tree failed, nothing else was touched.
+    ensures opening { result.status ≡ Status.Outside Which.Tree None
+        → (result.disk ≡ disk) × (result.feed ≡ feed) × (result.out ≡ out) × (result.settled ≡ []) × (result.checked ≡ 0) × (result.built ≡ 0) }
     // Without `--watch` the feed is not asked, and nothing is settled where the run does not settle.
     ensures unasked { (command : Command) → command_of (map string_bytes words.now) ≡ Ok command → command.watch ≡ false → result.feed ≡ feed }
     ensures unsettled { (command : Command) → command_of (map string_bytes words.now) ≡ Ok command → command.watch ≡ false → (IsSettled result.status → ⊥) → result.settled ≡ [] }
+    // Where it stops before all is written, nothing is counted; where the sink fails after that, all that was written is.
+    ensures uncounted { (command : Command) → command_of (map string_bytes words.now) ≡ Ok command → command.watch ≡ false → (IsSettled result.status → ⊥)
+        → (result.status ≡ Status.Outside Which.Sink None → ⊥) → (result.checked ≡ 0) × (result.built ≡ 0) }
+    ensures unprinted { IsTrue T.tells → (command : Command) → command_of (map string_bytes words.now) ≡ Ok command → command.watch ≡ false
+        → result.status ≡ Status.Outside Which.Sink None → (clean : Clean) → IsClean (opening (T.texts tree.old)) command.roots clean
+        → (result.checked ≡ checks_of clean) × (result.built ≡ builds_of clean) }
+    // Where it settles, a crash then leaves all outputs.
+    ensures stays { IsTrue T.tells → IsTrue D.tells → (command : Command) → command_of (map string_bytes words.now) ≡ Ok command → command.watch ≡ false
+        → IsSettled result.status → (clean : Clean) → IsClean (opening (T.texts tree.old)) command.roots clean
+        → Always (λ files. HasOutputs files clean) (D.left result.disk (D.clock result.disk)) }
     ensures tree { IsTrue T.tells → T.texts tree.new ≡ T.texts tree.old }
     // No path outside the output folders of the plan reads otherwise, whatever the status is.
     ensures elsewhere { IsTrue T.tells → IsTrue D.tells → (command : Command) → command_of (map string_bytes words.now) ≡ Ok command

@@ -3,9 +3,9 @@ use Rattle.std.specs.Prelude.{All}
 use Rattle.std.proofs.lemmas.Iterator.Adapters.{YieldsList-from_vec}
 use Rattle.std.proofs.lemmas.Iterator.Consumers.{YieldsList-turn, YieldsList-so_far, YieldsList-end}
 use Rattle.tb_outside.specs.Disk.{Same, read_after_all}
-use Rattle.tb_outside.specs.Playing.{IsElsewhere}
+use Rattle.tb_outside.specs.Playing.{IsElsewhere, StopsAt}
 use Rattle.tb_outside.specs.declared.disks.DiskStep.{DiskStep}
-use Rattle.tb_session.proofs.Playing.{fails_in, fails_last, from_ok, no_failure, one_played}
+use Rattle.tb_session.proofs.Playing.{fails_in, fails_last, from_err, from_ok, no_failure, one_played}
 use Rattle.tb_session.proofs.publishes.write_all.Goals as goal
 
 pub returns-then-is_err-clause-failed : goal.returns-then-is_err-clause-failed
@@ -17,6 +17,7 @@ returns-then-is_err-clause-failed g c =
     let so_far = sym (map-id c.loop-script.yielded) ∙ YieldsList-so_far given c.loop-script.yielded c.loop-script.script-iterator c.loop-script.yielded_by in
     fails_in g.D.Disk.tells c.args.scripts c.loop-script.yielded c.in-Some.script c.in-Some.script.config (g.D.Disk.reads c.args.disk.now) (g.D.Disk.reads c.loop-script.disk) (g.D.Disk.reads c.play.new.disk)
     turn.0 turn.1 so_far refl c.loop-script.invariant.done (λ told path apart. c.play.ensures.others told path (subst (λ (ss : List DiskStep). All (IsElsewhere path) ss) (sym c.as_slice.ensures) apart))
+    (λ told. subst (λ (ss : List DiskStep). StopsAt ss (g.D.Disk.reads c.loop-script.disk) (g.D.Disk.reads c.play.new.disk)) c.as_slice.ensures (from_err c.play.result _ (sym c.is_err.ensures.value ∙ c.if-is_err.true) (c.play.ensures.stopped told)))
 
 pub loop-script-preserved : goal.loop-script-preserved
 loop-script-preserved g c =

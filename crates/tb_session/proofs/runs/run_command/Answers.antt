@@ -8,7 +8,7 @@ use Rattle.tb_session.specs.Headline.{NotServed, Run}
 use Rattle.tb_session.specs.Ready.{IsReady}
 use Rattle.tb_session.specs.declared.publishes.Publication.{Publication}
 use Rattle.tb_session.proofs.Ending.{failed_ends, only_tree, published_ends, unsettled_outside, unsettled_memory, unsettled_not_built}
-use Rattle.tb_session.proofs.Settling.{stopped, published, publication_settles, served, unsettled, nothing_else, kept, names, not_unbuilt}
+use Rattle.tb_session.proofs.Settling.{stopped, published, publication_settles, served, unsettled, nothing_else, kept, names, not_unbuilt, not_the_tree, stays, uncounted, unprinted}
 use Rattle.tb_session.proofs.runs.run_command.Goals as goal
 
 -- ---- the tree failed
@@ -162,3 +162,57 @@ returns-in-Ok-Some-clause-blamed g c told written config e =
     let texts : generations.Tree = opening (g.T.Tree.texts c.args.tree.now) in
     let here : IsReady texts roots verbose p = subst (λ (t : generations.Tree). IsReady t roots verbose p) (c.in-Ok.ensures.texts told) ready in
     names texts roots verbose g.D.Disk.tells g.O.Sink.tells p here (record { files = g.D.Disk.reads c.args.disk; printed = g.O.Sink.taken c.args.out; disk_count = g.D.Disk.count c.args.disk; sink_count = g.O.Sink.count c.args.out }) (record { files = g.D.Disk.reads c.publish.result.disk; printed = g.O.Sink.taken c.publish.result.out; disk_count = g.D.Disk.count c.publish.result.disk; sink_count = g.O.Sink.count c.publish.result.out }) (record { status = c.publish.result.status; settled = c.publish.result.settled; checked = c.publish.result.checked; built = c.publish.result.built }) c.publish.ensures.published written config e
+
+pub returns-in-Ok-Some-clause-opening : goal.returns-in-Ok-Some-clause-opening
+returns-in-Ok-Some-clause-opening g c e =
+    let p : Publication = c.in-Ok-Some.publication in
+    let roots : List (List ℕ) = c.args.command.roots in
+    let verbose = c.args.command.verbose in
+    let ready : IsReady c.in-Ok.texts roots verbose p = subst (λ (rs : List (List ℕ)). IsReady c.in-Ok.texts rs verbose p) c.as_slice.ensures
+    (subst (λ (o : Option Publication). IfSome o (IsReady c.in-Ok.texts c.as_slice.result.now verbose)) c.in-Ok-Some.field-0-is c.in-Ok-Some.ensures.ready) in
+    absurd (not_the_tree c.in-Ok.texts roots verbose g.D.Disk.tells g.O.Sink.tells p ready (record { files = g.D.Disk.reads c.args.disk; printed = g.O.Sink.taken c.args.out; disk_count = g.D.Disk.count c.args.disk; sink_count = g.O.Sink.count c.args.out }) (record { files = g.D.Disk.reads c.publish.result.disk; printed = g.O.Sink.taken c.publish.result.out; disk_count = g.D.Disk.count c.publish.result.disk; sink_count = g.O.Sink.count c.publish.result.out }) (record { status = c.publish.result.status; settled = c.publish.result.settled; checked = c.publish.result.checked; built = c.publish.result.built }) c.publish.ensures.published e)
+
+pub returns-in-Ok-Some-clause-uncounted : goal.returns-in-Ok-Some-clause-uncounted
+returns-in-Ok-Some-clause-uncounted g c ends no_sink =
+    let p : Publication = c.in-Ok-Some.publication in
+    let roots : List (List ℕ) = c.args.command.roots in
+    let verbose = c.args.command.verbose in
+    let ready : IsReady c.in-Ok.texts roots verbose p = subst (λ (rs : List (List ℕ)). IsReady c.in-Ok.texts rs verbose p) c.as_slice.ensures
+    (subst (λ (o : Option Publication). IfSome o (IsReady c.in-Ok.texts c.as_slice.result.now verbose)) c.in-Ok-Some.field-0-is c.in-Ok-Some.ensures.ready) in
+    uncounted c.in-Ok.texts roots verbose g.D.Disk.tells g.O.Sink.tells p ready (record { files = g.D.Disk.reads c.args.disk; printed = g.O.Sink.taken c.args.out; disk_count = g.D.Disk.count c.args.disk; sink_count = g.O.Sink.count c.args.out }) (record { files = g.D.Disk.reads c.publish.result.disk; printed = g.O.Sink.taken c.publish.result.out; disk_count = g.D.Disk.count c.publish.result.disk; sink_count = g.O.Sink.count c.publish.result.out }) (record { status = c.publish.result.status; settled = c.publish.result.settled; checked = c.publish.result.checked; built = c.publish.result.built }) c.publish.ensures.published ends no_sink
+
+pub returns-in-Ok-Some-clause-unprinted : goal.returns-in-Ok-Some-clause-unprinted
+returns-in-Ok-Some-clause-unprinted g c told e clean is =
+    let p : Publication = c.in-Ok-Some.publication in
+    let roots : List (List ℕ) = c.args.command.roots in
+    let verbose = c.args.command.verbose in
+    let ready : IsReady c.in-Ok.texts roots verbose p = subst (λ (rs : List (List ℕ)). IsReady c.in-Ok.texts rs verbose p) c.as_slice.ensures
+    (subst (λ (o : Option Publication). IfSome o (IsReady c.in-Ok.texts c.as_slice.result.now verbose)) c.in-Ok-Some.field-0-is c.in-Ok-Some.ensures.ready) in
+    let texts : generations.Tree = opening (g.T.Tree.texts c.args.tree.now) in
+    let here : IsReady texts roots verbose p = subst (λ (t : generations.Tree). IsReady t roots verbose p) (c.in-Ok.ensures.texts told) ready in
+    unprinted texts roots verbose g.D.Disk.tells g.O.Sink.tells p here (record { files = g.D.Disk.reads c.args.disk; printed = g.O.Sink.taken c.args.out; disk_count = g.D.Disk.count c.args.disk; sink_count = g.O.Sink.count c.args.out }) (record { files = g.D.Disk.reads c.publish.result.disk; printed = g.O.Sink.taken c.publish.result.out; disk_count = g.D.Disk.count c.publish.result.disk; sink_count = g.O.Sink.count c.publish.result.out }) (record { status = c.publish.result.status; settled = c.publish.result.settled; checked = c.publish.result.checked; built = c.publish.result.built }) c.publish.ensures.published e clean is
+
+pub returns-in-Ok-Some-clause-stays : goal.returns-in-Ok-Some-clause-stays
+returns-in-Ok-Some-clause-stays g c told written settled clean is =
+    let p : Publication = c.in-Ok-Some.publication in
+    let roots : List (List ℕ) = c.args.command.roots in
+    let verbose = c.args.command.verbose in
+    let ready : IsReady c.in-Ok.texts roots verbose p = subst (λ (rs : List (List ℕ)). IsReady c.in-Ok.texts rs verbose p) c.as_slice.ensures
+    (subst (λ (o : Option Publication). IfSome o (IsReady c.in-Ok.texts c.as_slice.result.now verbose)) c.in-Ok-Some.field-0-is c.in-Ok-Some.ensures.ready) in
+    let texts : generations.Tree = opening (g.T.Tree.texts c.args.tree.now) in
+    let here : IsReady texts roots verbose p = subst (λ (t : generations.Tree). IsReady t roots verbose p) (c.in-Ok.ensures.texts told) ready in
+    stays texts roots verbose g.D.Disk.tells g.O.Sink.tells p here (record { files = g.D.Disk.reads c.args.disk; printed = g.O.Sink.taken c.args.out; disk_count = g.D.Disk.count c.args.disk; sink_count = g.O.Sink.count c.args.out }) (record { files = g.D.Disk.reads c.publish.result.disk; printed = g.O.Sink.taken c.publish.result.out; disk_count = g.D.Disk.count c.publish.result.disk; sink_count = g.O.Sink.count c.publish.result.out }) (record { status = c.publish.result.status; settled = c.publish.result.settled; checked = c.publish.result.checked; built = c.publish.result.built }) c.publish.ensures.published written settled (g.D.Disk.left c.publish.result.disk (g.D.Disk.clock c.publish.result.disk)) (c.publish.ensures.stays written) clean is
+
+-- where it does not settle, nothing has to stay
+
+pub returns-in-Err-Failed-clause-stays : goal.returns-in-Err-Failed-clause-stays
+returns-in-Err-Failed-clause-stays g c told written settled clean is = let e = c.stopped.ensures in absurd (unsettled_outside _ Tree None (λ i. (e i).status) settled)
+
+pub returns-in-Err-NoMemory-clause-stays : goal.returns-in-Err-NoMemory-clause-stays
+returns-in-Err-NoMemory-clause-stays g c told written settled clean is = let e = c.stopped-in-Err-NoMemory.ensures in absurd (unsettled_memory _ (λ i. (e i).status) settled)
+
+pub returns-in-Ok-None-clause-stays : goal.returns-in-Ok-None-clause-stays
+returns-in-Ok-None-clause-stays g c told written settled clean is = let e = c.stopped-in-Ok-None.ensures in absurd (unsettled_not_built _ (λ i. (e i).status) settled)
+
+pub returns-clause-stays : goal.returns-clause-stays
+returns-clause-stays g c told written settled clean is = let e = c.stopped-in-Err.ensures in absurd (unsettled_memory _ (λ i. (e i).status) settled)

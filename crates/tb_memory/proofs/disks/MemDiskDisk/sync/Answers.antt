@@ -38,3 +38,6 @@ returns-clause-crash c =
     λ k from to q content h.
     let now : content ≡ reads_of old q = during old Sync new _ takes k from to q content h in
     subst (λ (c : Option (List ℕ)). left_of old.log (length old.log) q c) (sym now) (read_is_left old.log old.cut q)
+
+pub returns-clause-stopped : goal.returns-clause-stopped
+returns-clause-stopped c = c.take.ensures.sync refl

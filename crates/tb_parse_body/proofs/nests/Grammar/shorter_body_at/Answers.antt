@@ -22,27 +22,24 @@ returns-then-not-is_word g c =
 
 pub returns-in_default : goal.returns-in_default
 returns-in_default g c =
-    let f = c.in_ok-shape.ensures in
-    shorter_lacks_shape (rest c.args.self.now.reader c.args.at) _ _ (rw c.in_default.is at f)
+    let r = c.args.self.now.reader in
+    let b = c.in_ok-block.ensures in
+    let h : c.args.at ≤ c.args.end = omega (arith, c.requires.ordered) in
+    shorter_lacks_block (rest r c.args.at) _ (rest r c.args.end) _ _
+    (cut_at r.text.now r.tokens.now c.args.at c.args.end h c.requires.within) (cut_length r.text.now r.tokens.now c.args.at c.args.end c.requires.within) (rw c.in_default.is at b)
 
 pub returns-in_default-2 : goal.returns-in_default-2
 returns-in_default-2 g c =
-    let r = c.args.self.now.reader in
     let f = c.in_ok-shape.ensures in
-    let b = c.in_ok-block.ensures in
-    let q = rw c.in-Some.is at f in
-    let h : c.args.at ≤ c.args.end = omega (arith, c.requires.ordered) in
-    let e = cut_at r.text.now r.tokens.now c.args.at c.args.end h c.requires.within in
-    let n = cut_length r.text.now r.tokens.now c.args.at c.args.end c.requires.within in
-    shorter_lacks_block (rest r c.args.at) _ _ (counted_at (rest r c.args.at) _ (rest r c.args.end) _ _ e n q.1) (rw c.in_default-2.is at b)
+    shorter_lacks_shape (rest c.args.self.now.reader c.args.at) _ _ (rw c.in_default-2.is at f)
 
 pub returns : goal.returns
 returns g c =
     let r = c.args.self.now.reader in
     let f = c.in_ok-shape.ensures in
     let b = c.in_ok-block.ensures in
-    let q = rw c.in-Some.is at f in
-    let h = rw c.in-Some-2.is at b in
+    let h = rw c.in-Some.is at b in
+    let q = rw c.in-Some-2.is at f in
     let o : c.args.at ≤ c.args.end = omega (arith, c.requires.ordered) in
     let e = cut_at r.text.now r.tokens.now c.args.at c.args.end o c.requires.within in
     let n = cut_length r.text.now r.tokens.now c.args.at c.args.end c.requires.within in
