@@ -23,27 +23,35 @@ abbrev pub rule_in : List Row → List ℕ → Option Rule
 rule_in rows name = option_map (λ row. row.1) (find (λ row. list_any (bytes_eq name) row.0) rows)
 
 abbrev pub rows : List Row
-rows =
-    (codes "strict" ∷ codes "noImplicitAny" ∷ codes "strictNullChecks" ∷ codes "strictFunctionTypes" ∷
-        codes "strictBindCallApply" ∷ codes "strictPropertyInitialization" ∷ codes "noImplicitThis" ∷
-        codes "useUnknownInCatchVariables" ∷ codes "alwaysStrict" ∷ codes "isolatedDeclarations" ∷
-        codes "isolatedModules" ∷ codes "verbatimModuleSyntax" ∷ codes "declaration" ∷ codes "incremental" ∷ [], rule.True)
-    ∷ (codes "noEmitOnError" ∷ codes "noEmit" ∷ codes "emitDeclarationOnly" ∷ codes "allowJs" ∷
-        codes "checkJs" ∷ codes "noUncheckedIndexedAccess" ∷ codes "exactOptionalPropertyTypes" ∷ [], rule.False)
+rows = (
+  codes "strict" ∷ codes "noImplicitAny" ∷ codes "strictNullChecks" ∷ codes "strictFunctionTypes" ∷
+      codes "strictBindCallApply" ∷ codes "strictPropertyInitialization" ∷ codes "noImplicitThis" ∷
+      codes "useUnknownInCatchVariables" ∷ codes "alwaysStrict" ∷ codes "isolatedDeclarations" ∷
+      codes "isolatedModules" ∷ codes "verbatimModuleSyntax" ∷ codes "declaration" ∷ codes "incremental" ∷ [],
+  rule.True,
+)
+    ∷ (
+      codes "noEmitOnError" ∷ codes "noEmit" ∷ codes "emitDeclarationOnly" ∷ codes "allowJs" ∷
+          codes "checkJs" ∷ codes "noUncheckedIndexedAccess" ∷ codes "exactOptionalPropertyTypes" ∷ [],
+      rule.False,
+    )
     ∷ (codes "composite" ∷ [], rule.TrueOrFalse)
     ∷ (codes "module" ∷ [], rule.Module)
     ∷ (codes "moduleResolution" ∷ [], rule.Resolution)
     ∷ (codes "target" ∷ [], rule.Target)
     ∷ (codes "outDir" ∷ codes "rootDir" ∷ [], rule.PathText)
     ∷ (codes "paths" ∷ [], rule.PathLists)
-    ∷ (codes "skipLibCheck" ∷ codes "skipDefaultLibCheck" ∷ codes "esModuleInterop" ∷
-        codes "allowSyntheticDefaultImports" ∷ codes "lib" ∷ codes "types" ∷ codes "sourceMap" ∷
-        codes "inlineSources" ∷ codes "declarationMap" ∷ codes "forceConsistentCasingInFileNames" ∷
-        codes "resolveJsonModule" ∷ codes "moduleDetection" ∷ codes "jsx" ∷ codes "noUnusedLocals" ∷
-        codes "noUnusedParameters" ∷ codes "noImplicitReturns" ∷ codes "noImplicitOverride" ∷
-        codes "noFallthroughCasesInSwitch" ∷ codes "allowUnreachableCode" ∷ codes "allowUnusedLabels" ∷
-        codes "removeComments" ∷ codes "importHelpers" ∷ codes "newLine" ∷ codes "useDefineForClassFields" ∷
-        codes "noErrorTruncation" ∷ codes "pretty" ∷ codes "listFiles" ∷ [], rule.Ignored)
+    ∷ (
+      codes "skipLibCheck" ∷ codes "skipDefaultLibCheck" ∷ codes "esModuleInterop" ∷
+          codes "allowSyntheticDefaultImports" ∷ codes "lib" ∷ codes "types" ∷ codes "sourceMap" ∷
+          codes "inlineSources" ∷ codes "declarationMap" ∷ codes "forceConsistentCasingInFileNames" ∷
+          codes "resolveJsonModule" ∷ codes "moduleDetection" ∷ codes "jsx" ∷ codes "noUnusedLocals" ∷
+          codes "noUnusedParameters" ∷ codes "noImplicitReturns" ∷ codes "noImplicitOverride" ∷
+          codes "noFallthroughCasesInSwitch" ∷ codes "allowUnreachableCode" ∷ codes "allowUnusedLabels" ∷
+          codes "removeComments" ∷ codes "importHelpers" ∷ codes "newLine" ∷ codes "useDefineForClassFields" ∷
+          codes "noErrorTruncation" ∷ codes "pretty" ∷ codes "listFiles" ∷ [],
+      rule.Ignored,
+    )
     ∷ []
 
 abbrev pub rule_of : List ℕ → Option Rule

@@ -15,7 +15,7 @@ pub enum Trouble {
     /// The call failed, and the object's count of faults rose.
     #[error("a call to the outside failed")]
     Failed,
-    /// Memory was refused. No count rose, and the object stands as it was.
+    /// Memory was refused. No count rose, and what the object tells stands as it was; the call may have had its number.
     #[error("out of memory")]
     NoMemory,
 }

@@ -1,11 +1,10 @@
--- The texts of the codes, as the table of the code has them, and the printed line of a diagnostic. This project's own,
+-- The texts of the codes, and the printed line of a diagnostic. This project's own,
 -- but for the numbers of the codes that begin with TS and the form of the line, which are the TypeScript compiler's.
-use Rattle.std.specs.Prelude.{ℕ, Bool, not, ◌&&◌, if◌then◌else◌, nat_eq, nat_le, List, [], ◌∷◌, ◌++◌, codes, decimal, drop, length, map, min}
+use Rattle.std.specs.Prelude.{ℕ, Bool, true, false, not, ◌&&◌, if◌then◌else◌, nat_eq, nat_le, List, [], ◌∷◌, ◌++◌, codes, decimal, drop, length, min}
 use Rattle.std.specs.List.{starts_with}
 use Rattle.tb_text.specs.Lines.{column_at, line_at}
 use Rattle.tb_text.specs.declared.codes.Place.{Place}
 use Rattle.tb_text.specs.declared.codes.Place.TheVariants.{First, Second, Number, End}
-use Rattle.tb_text.specs.declared.codes.TheConstants.{ROWS}
 use Rattle.tb_text.specs.declared.findings.Code.{Code}
 use Rattle.tb_text.specs.declared.findings.Diag.{Diag}
 
@@ -17,9 +16,28 @@ Piece = List ℕ × Place
 abbrev pub Row : Type 0
 Row = Bool × ℕ × ℕ × List Piece
 
--- the table of the code, without its borrows
+-- the table of codes: of those that begin with TS, and of this project's own; no code is in two of its rows
 abbrev pub rows : List Row
-rows = map (λ row. (row.0, row.1, row.2, map (λ piece. (piece.0.now, piece.1)) row.3.now)) ROWS
+rows =
+    (false, 2300, 2300, (codes "Duplicate identifier '", First) ∷ (codes "'.", End) ∷ [])
+    ∷ (false, 2304, 2304, (codes "Cannot find name '", First) ∷ (codes "'.", End) ∷ [])
+    ∷ (false, 2305, 2305, (codes "Module '", First) ∷ (codes "' has no exported member '", Second) ∷ (codes "'.", End) ∷ [])
+    ∷ (false, 2307, 2307, (codes "Cannot find module '", First) ∷ (codes "'.", End) ∷ [])
+    ∷ (false, 2322, 2322, (codes "Type '", First) ∷ (codes "' is not assignable to type '", Second) ∷ (codes "'.", End) ∷ [])
+    ∷ (false, 2339, 2339, (codes "Property '", First) ∷ (codes "' does not exist on type '", Second) ∷ (codes "'.", End) ∷ [])
+    ∷ (false, 2345, 2345, (codes "Argument of type '", First) ∷ (codes "' is not assignable to parameter of type '", Second) ∷ (codes "'.", End) ∷ [])
+    ∷ (false, 2554, 2554, (codes "Expected ", First) ∷ (codes " arguments, but got ", Second) ∷ (codes ".", End) ∷ [])
+    ∷ (false, 6202, 6202, (codes "Project references form a cycle: ", First) ∷ (codes ".", End) ∷ [])
+    ∷ (false, 6306, 6306, (codes "Referenced project '", First) ∷ (codes "' must set composite.", End) ∷ [])
+    ∷ (false, 6307, 6307, (codes "File '", First) ∷ (codes "' is not in the file list of project '", Second) ∷ (codes "'.", End) ∷ [])
+    ∷ (true, 1001, 1001, (codes "This item has no reading.", End) ∷ [])
+    ∷ (true, 1002, 1002, (codes "The file is not UTF-8.", End) ∷ [])
+    ∷ (true, 2101, 2125, (codes "Rule ", Number) ∷ (codes " of section 6 to 9 is broken by '", First) ∷ (codes "'.", End) ∷ [])
+    ∷ (true, 5001, 5001, (codes "Config is unreadable.", End) ∷ [])
+    ∷ (true, 5002, 5002, (codes "Config not found.", End) ∷ [])
+    ∷ (true, 5003, 5015, (codes "Config fault ", Number) ∷ (codes ": '", First) ∷ (codes "'.", End) ∷ [])
+    ∷ (true, 9001, 9003, (codes "'", First) ∷ (codes "' needs a type annotation.", End) ∷ [])
+    ∷ []
 
 -- a row has a code
 abbrev pub covers : Row → Code → Bool

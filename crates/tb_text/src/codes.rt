@@ -1,4 +1,4 @@
-//! The table of codes and texts, which the definitions read too.
+//! The table of codes and texts.
 ghost use Rattle.std.specs.Prelude.{◌≡◌, map};
 ghost use Rattle.tb_text.specs.Messages.{covers, pieces_in, rows};
 ghost use Rattle.tb_text.specs.Borrows.{plain_pieces, plain_row};
