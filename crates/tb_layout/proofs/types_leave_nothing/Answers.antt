@@ -1,5 +1,5 @@
 -- By the equations; one of each further file of them is named, so that each file is checked.
-use Rattle.std.proofs.Common.{[], None, sym, ◌∙◌}
+use Rattle.std.proofs.Common.{[], None, false, refl, sym, ◌∙◌}
 use Rattle.tb_layout.proofs.Baring as baring
 use Rattle.tb_layout.proofs.Erasing as erasing
 use Rattle.tb_layout.proofs.Keeping as keeping
@@ -37,3 +37,23 @@ returns-clause-arguments c = λ at callee types arguments n. written.call_expr a
 pub returns-clause-annotations : goal.returns-clause-annotations
 returns-clause-annotations c = λ at name annotation value n. written.declarator_rolled (record { at = at; name = name; annotation = annotation; value = value }) n
     ∙ sym (written.declarator_rolled (record { at = at; name = name; annotation = None; value = value }) n)
+
+pub returns-clause-parameters : goal.returns-clause-parameters
+returns-clause-parameters c = λ at name optional annotation value n. written.param_rolled (record { at = at; name = name; optional = optional; annotation = annotation; value = value }) n
+    ∙ sym (written.param_rolled (record { at = at; name = name; optional = false; annotation = None; value = value }) n)
+
+pub returns-clause-signatures : goal.returns-clause-signatures
+returns-clause-signatures c = λ at name variables params result of n. written.function_rolled (record { at = at; name = name; variables = variables; params = params; result = result; body = of }) n
+    ∙ sym (written.function_rolled (record { at = at; name = name; variables = []; params = params; result = None; body = of }) n)
+
+pub returns-clause-arrows : goal.returns-clause-arrows
+returns-clause-arrows c = λ at params result of n. written.arrow_expr at params result of n ∙ sym (written.arrow_expr at params None of n)
+
+pub returns-clause-fields : goal.returns-clause-fields
+returns-clause-fields c = λ at is_static read_only name optional annotation value n. refl
+
+pub returns-clause-methods : goal.returns-clause-methods
+returns-clause-methods c = λ at is_static name params result of n. refl
+
+pub returns-clause-bases : goal.returns-clause-bases
+returns-clause-bases c = λ at name bases members. refl
