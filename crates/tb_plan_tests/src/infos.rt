@@ -79,3 +79,134 @@ fn is_refused(alloc: Global, text: &str, expected: bool) -> bool {
         _ => false,
     }
 }
+
+// Whether `TEXT` is refused, as no other builder's, once its first such part is another one.
+fn is_refused_with(alloc: Global, part: &str, other: &str) -> Result<bool, Fail> {
+    match TEXT.split_once(part) {
+        Some((before, behind)) => {
+            let text = format!(in alloc; "{before}{other}{behind}")?;
+            Ok(is_refused(alloc, text.as_str(), false))
+        }
+        None => Ok(false),
+    }
+}
+
+// A part of `TEXT`, and a text that no info has in its place.
+const NO_TEXTS: [(&str, &str); 25] = [
+    ("\"files\":[", "\"files\": ["),
+    ("\"root\":\"a\"}", "\"root\":\"a\"}\n"),
+    ("a/tsconfig", "\\u0061/tsconfig"),
+    ("a/tsconfig", "a//tsconfig"),
+    ("\"root\":\"a\"", "\"root\":\"a/\""),
+    ("\"path\":\"a/a.ts\"", "\"path\":\"a//a.ts\""),
+    ("[\"a/b.ts\",null", "[\"a/../b.ts\",null"),
+    ("0,\"a/b.ts\"", "0,\"a/./b.ts\""),
+    ("[\"a/a\",", "[\"/a\","),
+    ("\"version\":\"0f", "\"version\":\"0F"),
+    ("\"options\":\"ab", "\"options\":\"Ab"),
+    ("\"signature\":\"ab", "\"signature\":\"aB"),
+    ("\"version\":\"0f", "\"version\":\"0"),
+    ("\"version\":\"0f", "\"version\":\""),
+    ("\"options\":\"ab", "\"options\":\"abab"),
+    ("\"signature\":\"ab", "\"signature\":\"ag"),
+    ("\"x\",2,", "\"x\",3,"),
+    ("\"x\",2,\"\"", "\"x\",2,\"x.ts\""),
+    ("\"TS2322\"", "\"TS01\""),
+    ("\"TS65535\"", "\"TS65536\""),
+    ("\"TS2322\"", "\"TX2322\""),
+    ("\"TS2322\"", "\"TS\""),
+    ("\"TS2322\"", "\"T\""),
+    ("[18446744073709551615,", "[18446744073709551616,"),
+    ("[18446744073709551615,", "[-1,"),
+];
+
+#[test]
+fn refuses_other_texts(rt: HostRuntime) -> Result<(), Fail> {
+    for (part, other) in NO_TEXTS {
+        assert!(rt; is_refused_with(rt.alloc(), part, other)?, "{other}");
+    }
+    Ok(())
+}
+
+// A part of `TEXT`, and what no info has in its place: another kind of value, or more or fewer of them.
+const NO_VALUES: [(&str, &str); 17] = [
+    ("\"root\":\"a\"", "\"root\":null"),
+    ("\"project\":\"a/tsconfig.json\"", "\"project\":1"),
+    ("\"pending\":[\"a/a\",\"a/b\"]", "\"pending\":{}"),
+    ("\"signature\":null", "\"signature\":0"),
+    (
+        "\"signature\":null,\"version\":",
+        "\"signature\":null,\"version\":null,\"w\":",
+    ),
+    ("[\"x\",2,", "[7,2,"),
+    ("\"x\",2,", "\"x\",\"2\","),
+    ("\"x\",2,", "\"x\",2.0,"),
+    ("\"x\",2,\"\"", "\"x\",2"),
+    ("\"x\",2,\"\"", "\"x\",2,\"\",0"),
+    ("[3,\"TS2322\"", "[null,\"TS2322\""),
+    ("\"TS2322\"", "2322"),
+    ("\"TB7\",\"\",\"\"", "\"TB7\",\"\""),
+    (",\"root\":\"a\"}", "}"),
+    (",\"root\":\"a\"}", ",\"root\":\"a\",\"s\":0}"),
+    ("\"edges\":[],", ""),
+    (",\"pending\":[", ",\"pending\":[],\"pending\":["),
+];
+
+#[test]
+fn refuses_other_values(rt: HostRuntime) -> Result<(), Fail> {
+    for (part, other) in NO_VALUES {
+        assert!(rt; is_refused_with(rt.alloc(), part, other)?, "{other}");
+    }
+    Ok(())
+}
+
+// A part of `TEXT`, and one after which a list or the members are in another order, or one of them stands twice.
+const NO_ORDERS: [(&str, &str); 18] = [
+    ("\"path\":\"a/a.ts\"", "\"path\":\"a/c.ts\""),
+    ("\"path\":\"a/a.ts\"", "\"path\":\"a/b.ts\""),
+    ("[\"./b\",0,", "[\"./e\",0,"),
+    ("[\"./b\",0,", "[\"./d\",0,"),
+    ("[\"a/b.ts\",null", "[\"a/d.ts\",null"),
+    ("[\"a/b.ts\",null", "[\"a/c.ts\",null"),
+    (
+        "[[\"./b\",0,\"a/b.ts\"]]",
+        "[[\"./b\",0,\"a/b.ts\"],[\"./a\",0,\"a/b.ts\"]]",
+    ),
+    (
+        "[[\"./b\",0,\"a/b.ts\"]]",
+        "[[\"./b\",0,\"a/b.ts\"],[\"./b\",0,\"a/b.ts\"]]",
+    ),
+    ("[3,\"TS2322\"", "[4,\"TS2322\""),
+    ("\"TB7\",\"\",\"\"", "\"TS7\",\"\",\"\""),
+    ("\"TS2322\"", "\"TB2322\""),
+    (
+        "[3,\"TB7\",\"\",\"\"]",
+        "[3,\"TB7\",\"b\",\"\"],[3,\"TB7\",\"a\",\"\"]",
+    ),
+    (
+        "[3,\"TB7\",\"\",\"\"]",
+        "[3,\"TB7\",\"\",\"b\"],[3,\"TB7\",\"\",\"a\"]",
+    ),
+    (
+        "[3,\"TB7\",\"\",\"\"]",
+        "[3,\"TB7\",\"\",\"\"],[3,\"TB7\",\"\",\"\"]",
+    ),
+    ("[\"a/a\",\"a/b\"]", "[\"a/b\",\"a/a\"]"),
+    ("[\"a/a\",\"a/b\"]", "[\"a/a\",\"a/a\"]"),
+    (
+        "\"project\":\"a/tsconfig.json\",\"root\":\"a\"",
+        "\"root\":\"a\",\"project\":\"a/tsconfig.json\"",
+    ),
+    (
+        "\"path\":\"a/b.ts\",\"reach\":[]",
+        "\"reach\":[],\"path\":\"a/b.ts\"",
+    ),
+];
+
+#[test]
+fn refuses_other_orders(rt: HostRuntime) -> Result<(), Fail> {
+    for (part, other) in NO_ORDERS {
+        assert!(rt; is_refused_with(rt.alloc(), part, other)?, "{other}");
+    }
+    Ok(())
+}

@@ -7,7 +7,7 @@ use tb_face::{
     DECLARATION, PathEntry, SCRIPT, info_path, new_info_path, options_digest, options_text,
     output_path, signature, stem_of, version,
 };
-use tb_text::{Digest, List, Name, Path};
+use tb_text::{Digest, List, Name, Path, PathFault};
 
 // The standard's own examples of SHA-256: a text of one block, and the empty text.
 #[test]
@@ -123,5 +123,72 @@ fn outputs_stand_in_the_folder(rt: HostRuntime) -> Result<(), Fail> {
         new_info_path(rt.alloc(), &dist)?.as_str(),
         "p/dist/tsconfig.tsbuildinfo.new"
     );
+    Ok(())
+}
+
+// A folder, a stem and an ending that make no path.
+const NO_OUTPUTS: [(&str, &str, &str); 8] = [
+    ("", "a//b", SCRIPT),
+    ("", "/a", SCRIPT),
+    ("", "../a", DECLARATION),
+    ("p/dist", "./a", SCRIPT),
+    ("p/dist", "a\\b", SCRIPT),
+    ("p/dist", "a\n", DECLARATION),
+    ("p/dist", "", ""),
+    ("p/dist", "..", ""),
+];
+
+#[test]
+fn what_makes_no_path_is_no_output(rt: HostRuntime) -> Result<(), Fail> {
+    for (folder, stem, ending) in NO_OUTPUTS {
+        let folder = Path::read(rt.alloc(), folder)?;
+        let found = output_path(rt.alloc(), &folder, stem, ending);
+        assert!(rt; matches!(found, Err(PathFault::BadPath)), "{stem}");
+    }
+    Ok(())
+}
+
+// A path has at most 1,024 bytes.
+#[test]
+fn outputs_have_the_bytes_of_a_path(rt: HostRuntime) -> Result<(), Fail> {
+    let alloc = rt.alloc();
+    let dist = Path::read(alloc, "dist")?;
+    let stem = "b".repeat(alloc, 1014)?;
+    let found = output_path(alloc, &dist, stem.as_str(), DECLARATION)?;
+    assert_eq!(rt; found.as_str().len(), 1024);
+    let stem = "b".repeat(alloc, 1015)?;
+    let found = output_path(alloc, &dist, stem.as_str(), DECLARATION);
+    assert!(rt; matches!(found, Err(PathFault::BadPath)));
+    let found = output_path(alloc, &dist, stem.as_str(), SCRIPT)?;
+    assert_eq!(rt; found.as_str().len(), 1023);
+    Ok(())
+}
+
+// Whether a path of so many bytes was found, or that there is none.
+fn is_of(found: Result<Path, PathFault>, bytes: Option<usize>) -> bool {
+    match found {
+        Ok(path) => bytes == Some(path.as_str().len()),
+        Err(PathFault::BadPath) => bytes.is_none(),
+        Err(PathFault::NoMemory) => false,
+    }
+}
+
+// The bytes of a folder, of its info's path, and of the path under which that is written first.
+const INFOS: [(usize, Option<usize>, Option<usize>); 4] = [
+    (999, Some(1020), Some(1024)),
+    (1000, Some(1021), None),
+    (1003, Some(1024), None),
+    (1004, None, None),
+];
+
+#[test]
+fn infos_have_the_bytes_of_a_path(rt: HostRuntime) -> Result<(), Fail> {
+    let alloc = rt.alloc();
+    for (bytes, info, new_info) in INFOS {
+        let name = "d".repeat(alloc, bytes)?;
+        let folder = Path::read(alloc, name.as_str())?;
+        assert!(rt; is_of(info_path(alloc, &folder), info), "{bytes}");
+        assert!(rt; is_of(new_info_path(alloc, &folder), new_info), "{bytes}");
+    }
     Ok(())
 }
