@@ -25,7 +25,7 @@ use Rattle.tb_emit_law.proofs.Derives.{all_classed}
 same_symbols : {text : List ℕ} {a b : List Sym} → HasSymbols text a → HasSymbols text b → a ≡ b
 same_symbols {text = text} h g = h.same ∙ (ap (λ ts. symbols (without_mark text) ts) (scan_is_one (without_mark text) 0 [] h.tokens g.tokens h.scanned g.scanned) ∙ sym g.same)
 
-row_of : {xs : List Sym} {of : List Item} → AreItems DerivesItem xs of → Row xs of
+pub row_of : {xs : List Sym} {of : List Item} → AreItems DerivesItem xs of → Row xs of
 row_of are_none = no_row
 row_of (are_more d r) = more_row d (row_of r)
 

@@ -21,7 +21,9 @@ pub mod SoundExprs
 pub mod SoundItems
 pub mod JsText
 pub mod Derives
+pub mod Determined
 pub mod Answered
+pub mod Fronts
 pub mod DeclPlain
 pub mod DeclSteps
 pub mod DeclTypes
