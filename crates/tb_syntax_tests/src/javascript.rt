@@ -1,10 +1,12 @@
 //! Tests of `tb_emit_js`.
 
+use crate::shared::nested;
 use sqlite_items::{Boxed, Items};
-use std::alloc::Global;
+use std::alloc::{AllocError, Global};
 use std::rt::HostRuntime;
 use std::test::Fail;
 use tb_emit_js::js;
+use tb_parse_file::{FileFault, read_file};
 use tb_text::{Name, NoMemory, Text};
 use tb_tree::{
     Alias, ArrowBody, BinaryOperator, Block, BlockItem, ClassDeclaration, ClassMember, Clause,
@@ -605,5 +607,73 @@ fn lays_out_imports_and_exports(rt: HostRuntime) -> Result<(), Fail> {
     assert_eq!(rt; text.as_slice(), b"export {};\n".as_slice());
     let text = one(alloc, list(alloc, true, true)?)?;
     assert_eq!(rt; text.as_slice(), b"export {} from './m';\n".as_slice());
+    Ok(())
+}
+
+// A file that was read is owned by a function of its own: what a function owns is what its check grows with.
+fn js_of(alloc: Global, file: File) -> Result<Text, NoMemory> {
+    js(alloc, &file)
+}
+
+fn js_of_text(alloc: Global, text: &str) -> Result<Text, FileFault> {
+    let file = read_file(alloc, text.as_bytes())?;
+    Ok(js_of(alloc, file)?)
+}
+
+fn put_lines(out: &mut String, margin: &str, lines: &str) -> Result<(), AllocError> {
+    for line in lines.lines() {
+        out.push_str(margin)?;
+        out.push_str(line)?;
+        out.push_str("\n")?;
+    }
+    Ok(())
+}
+
+// So many times some lines, a line, and so many times others, each time one margin further inside.
+fn nested_lines(
+    alloc: Global,
+    margin: &str,
+    before: &str,
+    line: &str,
+    behind: &str,
+    count: usize,
+) -> Result<String, AllocError> {
+    let mut out = String::new(alloc);
+    for n in 0..count {
+        put_lines(&mut out, margin.repeat(alloc, n)?.as_str(), before)?;
+    }
+    put_lines(&mut out, margin.repeat(alloc, count)?.as_str(), line)?;
+    for n in (0..count).rev() {
+        put_lines(&mut out, margin.repeat(alloc, n)?.as_str(), behind)?;
+    }
+    out.push_str("export {};\n")?;
+    Ok(out)
+}
+
+// What stands so many times round a statement, that statement, and the lines of each.
+const DEEP: [(&str, &str, &str, usize, &str, &str, &str); 4] = [
+    ("{", "a;", "}", 199, "    ", "{", "}"),
+    ("{", ";", "}", 200, "    ", "{", "}"),
+    ("while(a)", "a;", "", 199, "    ", "while (a)", ""),
+    (
+        "switch(a){default:",
+        "a;",
+        "}",
+        199,
+        "        ",
+        "switch (a) {\n    default:",
+        "}",
+    ),
+];
+
+#[test]
+fn lays_out_the_deepest_items(rt: HostRuntime) -> Result<(), Fail> {
+    let alloc = rt.alloc();
+    for (before, text, behind, count, margin, first, last) in DEEP {
+        let source = nested(alloc, before, text, behind, count)?;
+        let found = js_of_text(alloc, source.as_str())?;
+        let wanted = nested_lines(alloc, margin, first, text, last, count)?;
+        assert!(rt; found.as_slice() == wanted.as_bytes(), "{before}");
+    }
     Ok(())
 }

@@ -10,6 +10,8 @@ mod files;
 #[cfg(test)]
 mod javascript;
 #[cfg(test)]
+mod parts;
+#[cfg(test)]
 mod shared;
 #[cfg(test)]
 mod tokens;

@@ -2,7 +2,8 @@
 
 use std::alloc::Global;
 use std::test::Fail;
-use tb_scan::{Kind, scan};
+use tb_scan::{Braces, Kind, Token, next_token, scan};
+use tb_text::NoMemory;
 
 /// The tokens of a text, each by its kind and its text, in brackets.
 fn shown(alloc: Global, text: &str) -> Result<String, Fail> {
@@ -109,5 +110,82 @@ fn tokens_of_texts(rt: HostRuntime) -> Result<(), Fail> {
     for (text, tokens) in rows {
         assert_eq!(rt; shown(rt.alloc(), text)?.as_str(), tokens, "{text}");
     }
+    Ok(())
+}
+
+// The next token from a place of a text on; none where the place is inside a character.
+fn next_of(text: &str, at: usize, braces: &mut Braces) -> Result<Option<Token>, NoMemory> {
+    if text.is_char_boundary(at) {
+        next_token(text, at, braces)
+    } else {
+        Ok(None)
+    }
+}
+
+// A text, a place where nothing is open, and the token that is next.
+const NEXT: [(&str, usize, Option<(Kind, usize, usize)>); 22] = [
+    ("", 0, None),
+    (" \t\n", 0, None),
+    ("a", 1, None),
+    ("a//b", 1, None),
+    ("a /*b*/ ", 1, None),
+    ("let x", 0, Some((Kind::Word, 0, 3))),
+    ("let x", 1, Some((Kind::Word, 1, 3))),
+    ("let x", 3, Some((Kind::Word, 4, 5))),
+    ("\u{E9}=1", 0, Some((Kind::Word, 0, 2))),
+    ("\u{E9}=1", 2, Some((Kind::Mark, 2, 3))),
+    ("a/*b*/===c", 1, Some((Kind::Mark, 6, 9))),
+    ("a/*b*/===c", 2, Some((Kind::Mark, 2, 3))),
+    ("0x1F;", 0, Some((Kind::Number, 0, 4))),
+    (" 'b' c", 0, Some((Kind::Str, 1, 4))),
+    ("`b`c", 0, Some((Kind::Whole, 0, 3))),
+    ("`b${c}`", 0, Some((Kind::Head, 0, 4))),
+    ("}b`", 0, Some((Kind::Mark, 0, 1))),
+    ("a #b", 1, Some((Kind::Bad, 2, 3))),
+    ("1a b", 0, Some((Kind::Bad, 0, 2))),
+    ("a \"b", 1, Some((Kind::Bad, 2, 4))),
+    ("a `b", 1, Some((Kind::Bad, 2, 4))),
+    ("a /*b", 1, Some((Kind::Bad, 2, 5))),
+];
+
+#[test]
+fn tokens_at_places(rt: HostRuntime) -> Result<(), Fail> {
+    for (text, at, token) in NEXT {
+        let mut braces = Braces::new(rt.alloc());
+        let found = next_of(text, at, &mut braces)?;
+        assert_eq!(rt;
+            found.map(|token| (token.kind, token.start, token.end)),
+            token,
+            "{text}"
+        );
+    }
+    Ok(())
+}
+
+// The tokens of this text, and whether a hole is open behind each.
+const HOLES: &str = "{ `a${ {} }b${}c`;}";
+
+const IN_HOLES: [(Kind, usize, usize, bool); 8] = [
+    (Kind::Mark, 0, 1, false),
+    (Kind::Head, 2, 6, true),
+    (Kind::Mark, 7, 8, false),
+    (Kind::Mark, 8, 9, true),
+    (Kind::Middle, 10, 14, true),
+    (Kind::Tail, 14, 17, false),
+    (Kind::Mark, 17, 18, false),
+    (Kind::Mark, 18, 19, false),
+];
+
+#[test]
+fn tokens_leave_what_is_open(rt: HostRuntime) -> Result<(), Fail> {
+    let mut braces = Braces::new(rt.alloc());
+    let mut at = 0;
+    for (kind, start, end, in_hole) in IN_HOLES {
+        let found = next_of(HOLES, at, &mut braces)?;
+        assert_eq!(rt; found, Some(Token { kind, start, end }));
+        assert_eq!(rt; braces.in_hole(), in_hole, "{end}");
+        at = end;
+    }
+    assert_eq!(rt; next_of(HOLES, at, &mut braces)?, None);
     Ok(())
 }
